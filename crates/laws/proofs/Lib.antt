@@ -1,0 +1,4 @@
+pub mod Every
+pub mod Values
+pub mod InPlace
+pub mod Xor

@@ -1,0 +1,16 @@
+-- Long division of polynomials over two elements, each a number whose bit k is the factor of x^k. Assumes nothing.
+use mathlib.Core.Bool.{Bool, true, false, cond}
+use Prim.Native.Nat.{ℕ, zero, suc, _+_, _*_, _/_, _^_}
+use lib.Dec.{eqb}
+use lib.Bits.{bitXor}
+
+-- The divisor is x^w and below it the terms g.
+module _ (w g : ℕ) where
+  -- one step at place k: where a has its bit w + k set, the divisor is taken away there
+  unfoldable pub reduce : ℕ → ℕ → ℕ
+  reduce k a = cond (eqb (a / 2 ^ (w + k)) 1) (bitXor a ((2 ^ w + g) * 2 ^ k)) a
+
+  -- the remainder of a, of at most w + k bits
+  unfoldable pub rem : ℕ → ℕ → ℕ
+  rem zero a = a
+  rem (suc k) a = rem k (reduce k a)

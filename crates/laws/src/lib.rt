@@ -1,0 +1,1 @@
+// Mathematics that the other crates cite: there is no code here.

@@ -2,3 +2,4 @@ pub mod Every
 pub mod Values
 pub mod InPlace
 pub mod Xor
+pub mod Divide

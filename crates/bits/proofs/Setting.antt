@@ -9,12 +9,13 @@ use lib.Bits.{bitAnd, bitOr}
 use lib.ListN.{length, getD, set, length-set}
 use lib.Seq.{set-out, getD-set-same, getD-set-other}
 use borrow.Author.Tests.{ne-eqb, lt-ltb}
+use Rattle.laws.specs.Value.{Bytes}
 use Rattle.laws.proofs.Every.{every, every-at}
 use Rattle.bits.specs.Bits.{bit, eight, bitsOf, byteOf, bytesOf}
 use Rattle.bits.specs.Places.{within, getOf, flag, withBit}
 use Rattle.refusal.specs.declared.Refusal.the-variants.{OutOfRange}
 use Rattle.bits.specs.declared.Bit.the-variants.{Value, Refused}
-use Rattle.bits.proofs.Back.{Bytes, length-bits, length-bytes, byte-eight, bytes-bits, bits-bytes, next-byte, next-bit}
+use Rattle.bits.proofs.Back.{length-bits, length-bytes, byte-eight, bytes-bits, bits-bytes, next-byte, next-bit}
 
 pub flag-one : (v : ℕ) → (v ≡ 0 → ⊥) → flag v ≡ true
 flag-one v h = ap not (ne-eqb v 0 h)

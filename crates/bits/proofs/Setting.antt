@@ -20,6 +20,10 @@ use Rattle.bits.proofs.Back.{length-bits, length-bytes, byte-eight, byt
 pub flag-one : (v : ℕ) → (v ≡ 0 → ⊥) → flag v ≡ true
 flag-one v h = ap not (ne-eqb v 0 h)
 
+pub flag-bit : (b : Bool) → flag (bit b) ≡ b
+flag-bit true = refl
+flag-bit false = refl
+
 -- ---- the byte that holds the bit
 
 -- byte x with its bit k, the top one first

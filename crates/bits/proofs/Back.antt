@@ -7,7 +7,7 @@ use native.Mathlib.Nat.{zero-div}
 use native.Mathlib.Omega.{arith}
 use lib.Dec.{eqb, eqb→eq}
 use lib.ListN.{length, getD, take, drop}
-use lib.Seq.{drop-drop, ext-getD, getD-drop, getD-take}
+use lib.Seq.{drop-drop}
 use Rattle.laws.specs.Value.{Bytes}
 use Rattle.laws.proofs.Every.{every-at}
 use Rattle.bits.specs.Bits.{odd, bit, eight, bitsOf, byteOf, bytesOf}

@@ -1,8 +1,8 @@
 -- Bytes as one number: its size, and the number of two lists one after the other. Assumes nothing.
-use mathlib.Core.Path.{_≡_, refl, sym, ap, _∙_, subst}
+use mathlib.Core.Path.{_≡_, sym, ap, _∙_, subst}
 use mathlib.Core.List.{List, [], _∷_, _++_}
 use Prim.Native.Nat.{ℕ, suc, _+_, _*_, _^_, _<_}
-use native.Mathlib.Nat.{zero-mul, zero-add, add-mul, add-assoc, mul-assoc}
+use native.Mathlib.Nat.{zero-mul, zero-add, add-mul, mul-assoc}
 use native.Mathlib.Omega.{arith}
 use lib.Dec.{lit<}
 use lib.Arith.{digits-lt}

@@ -1,14 +1,11 @@
 -- The xored bytes: how many, what each is, and that xoring twice changes nothing. Assumes nothing.
-use mathlib.Core.Path.{_≡_, sym, ap, _∙_}
+use mathlib.Core.Path.{_≡_, ap, _∙_}
 use mathlib.Core.List.{List}
 use Prim.Native.Nat.{ℕ, _%_, _<_}
-use native.Mathlib.Nat.{mod-lt}
 use native.Mathlib.Omega.{arith}
-use lib.Dec.{lit<}
-use lib.Bits.{bitXor, xor-lt}
+use lib.Bits.{bitXor}
 use lib.ListN.{length, getD}
 use lib.Seq.{ext-getD}
-use Rattle.laws.specs.Value.{Bytes}
 use Rattle.laws.proofs.Values.{length-tabled, tabled-at}
 use Rattle.laws.proofs.Xor.{xor-back}
 use Rattle.random.specs.Random.{randomSeq, xored}

@@ -1,0 +1,97 @@
+// The codec for C and Rust. Each function answers 0 or the number of its refusal, and writes what it answers through
+// lent memory, which a refusal leaves as it was.
+ghost use mathlib.Core.Path.{_≡_};
+ghost use Rattle.refusal.specs.Number.{saidOf};
+ghost use Rattle.bits.specs.Places.{getOf, setOf, withBit, numberOfBit};
+ghost use Rattle.crc.specs.Crc.{crcFrom, crc};
+ghost use Rattle.random.specs.Random.{xored};
+ghost use Rattle.interleave.specs.Interleave.{interleavedOf};
+ghost use Rattle.golay.specs.Golay.{encodedOf, decodedOf, numberOfCodeword, numberOfReading};
+ghost use Rattle.m17.specs.Given.{bitGiven, bytesGiven, wordGiven, dataGiven};
+use bits::Bit;
+use golay::Codeword;
+use golay::Reading;
+use refusal::Verdict;
+
+#[no_mangle]
+pub extern "C" fn m17_get_bit(bytes: &[u8], place: usize, out: &mut u8) -> u8
+    ensures { λ r. ⌜ (r ≡ numberOfBit (getOf (now (bytes .entry)) place)) × (now (out .exit) ≡ bitGiven (getOf (now (bytes .entry)) place) (now (out .entry))) ⌝ }
+{
+    match bits::get_bit(bytes, place) {
+        Bit::Value(b) => {
+            *out = b;
+            0
+        }
+        Bit::Refused(why) => refusal::number(why),
+    }
+}
+
+#[no_mangle]
+pub extern "C" fn m17_set_bit(bytes: &mut [u8], place: usize, value: u8) -> u8
+    ensures { λ r. ⌜ (r ≡ saidOf (setOf (now (bytes .entry)) place)) × (now (bytes .exit) ≡ withBit (now (bytes .entry)) place value) ⌝ }
+{
+    refusal::said(bits::set_bit(bytes, place, value))
+}
+
+#[no_mangle]
+pub extern "C" fn m17_crc(input: &[u8]) -> u16
+    ensures { λ r. ⌜ r ≡ crc (now (input .entry)) ⌝ }
+{
+    crc::m17_crc(input)
+}
+
+#[no_mangle]
+pub extern "C" fn m17_crc_update(start: u16, input: &[u8]) -> u16
+    ensures { λ r. ⌜ r ≡ crcFrom start (now (input .entry)) ⌝ }
+{
+    crc::update(start, input)
+}
+
+#[no_mangle]
+pub extern "C" fn m17_random_xor(bytes: &mut [u8])
+    ensures { λ r. ⌜ now (bytes .exit) ≡ xored (now (bytes .entry)) ⌝ }
+{
+    random::random_xor(bytes)
+}
+
+#[no_mangle]
+pub extern "C" fn m17_interleave(payload: &[u8], out: &mut [u8; 46]) -> u8
+    ensures { λ r. ⌜ (r ≡ saidOf (interleavedOf (now (payload .entry)) .answer)) × (now (out .exit) ≡ bytesGiven (interleavedOf (now (payload .entry)) .answer) (interleavedOf (now (payload .entry)) .bytes) (now (out .entry))) ⌝ }
+{
+    let done = interleave::interleave(payload);
+    let answer = done.answer;
+    match answer {
+        Verdict::Done => {
+            let bytes = done.bytes;
+            *out = bytes;
+            0
+        }
+        Verdict::Refused(why) => refusal::number(why),
+    }
+}
+
+#[no_mangle]
+pub extern "C" fn m17_golay_encode(value: u16, out: &mut u32) -> u8
+    ensures { λ r. ⌜ (r ≡ numberOfCodeword (encodedOf value)) × (now (out .exit) ≡ wordGiven (encodedOf value) (now (out .entry))) ⌝ }
+{
+    match golay::encode(value) {
+        Codeword::Word(w) => {
+            *out = w;
+            0
+        }
+        Codeword::Refused(why) => refusal::number(why),
+    }
+}
+
+#[no_mangle]
+pub extern "C" fn m17_golay_decode(word: u32, out: &mut u16) -> u8
+    ensures { λ r. ⌜ (r ≡ numberOfReading (decodedOf word)) × (now (out .exit) ≡ dataGiven (decodedOf word) (now (out .entry))) ⌝ }
+{
+    match golay::decode(word) {
+        Reading::Data(d) => {
+            *out = d;
+            0
+        }
+        Reading::Refused(why) => refusal::number(why),
+    }
+}

@@ -1,0 +1,4 @@
+pub mod Value
+pub mod Callsign
+pub mod Address
+pub mod When

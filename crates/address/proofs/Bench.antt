@@ -6,18 +6,18 @@ use Rattle.refusal.specs.declared.Refusal.the-variants.{WrongLength, BadAddress
 use Rattle.refusal.specs.declared.Verdict.the-variants.{Done}
 use Rattle.address.specs.declared.Address.the-variants.{Invalid, Callsign, Reserved, Broadcast}
 use Rattle.address.specs.declared.Heard.the-variants.{Read, Refused}
-use Rattle.address.specs.Value.{valueOf, bytesOf}
+use Rattle.laws.specs.Value.{valueOf, inBytes}
 use Rattle.address.specs.Callsign.{alphabet, character, callsignOf, upper, placeIn, digitOf, known, blank, callsignValue}
 use Rattle.address.specs.Address.{withoutCallsign, addressOf, decodedOf, unwritten, encodedOf}
 
 -- "AB1CD" is 00 00 00 9F DD 51
 ab1cd : encodedOf Callsign (65 ∷ 66 ∷ 49 ∷ 67 ∷ 68 ∷ 32 ∷ 32 ∷ 32 ∷ 32 ∷ []) ≡ record { answer = Done; bytes = 0x00 ∷ 0x00 ∷ 0x00 ∷ 0x9F ∷ 0xDD ∷ 0x51 ∷ [] }
-unfolding encodedOf bytesOf callsignValue known blank digitOf placeIn alphabet upper
+unfolding encodedOf inBytes callsignValue known blank digitOf placeIn alphabet upper
 ab1cd = refl
 
 -- so is "ab1cd"
 lower : encodedOf Callsign (97 ∷ 98 ∷ 49 ∷ 99 ∷ 100 ∷ 32 ∷ 32 ∷ 32 ∷ 32 ∷ []) ≡ record { answer = Done; bytes = 0x00 ∷ 0x00 ∷ 0x00 ∷ 0x9F ∷ 0xDD ∷ 0x51 ∷ [] }
-unfolding encodedOf bytesOf callsignValue known blank digitOf placeIn alphabet upper
+unfolding encodedOf inBytes callsignValue known blank digitOf placeIn alphabet upper
 lower = refl
 
 ab1cd-read : decodedOf (0x00 ∷ 0x00 ∷ 0x00 ∷ 0x9F ∷ 0xDD ∷ 0x51 ∷ []) ≡ record { answer = Read Callsign; callsign = 65 ∷ 66 ∷ 49 ∷ 67 ∷ 68 ∷ 32 ∷ 32 ∷ 32 ∷ 32 ∷ [] }
@@ -44,7 +44,7 @@ first-reserved-bytes = refl
 
 -- an address that is invalid writes six zeros
 invalid : encodedOf Invalid (0 ∷ 0 ∷ 0 ∷ 0 ∷ 0 ∷ 0 ∷ 0 ∷ 0 ∷ 0 ∷ []) ≡ record { answer = Done; bytes = 0 ∷ 0 ∷ 0 ∷ 0 ∷ 0 ∷ 0 ∷ [] }
-unfolding encodedOf bytesOf
+unfolding encodedOf inBytes
 invalid = refl
 
 broadcast : decodedOf (0xFF ∷ 0xFF ∷ 0xFF ∷ 0xFF ∷ 0xFF ∷ 0xFF ∷ []) ≡ withoutCallsign (Read Broadcast)

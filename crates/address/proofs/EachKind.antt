@@ -10,7 +10,7 @@ use Rattle.refusal.specs.declared.Refusal.the-variants.{WrongLength, BadAddress
 use Rattle.address.specs.declared.Address.{Address}
 use Rattle.address.specs.declared.Address.the-variants.{Invalid, Callsign, Reserved, Broadcast}
 use Rattle.address.specs.declared.Heard.the-variants.{Read, Refused}
-use Rattle.address.specs.Value.{valueOf}
+use Rattle.laws.specs.Value.{valueOf}
 use Rattle.address.specs.Callsign.{callsignOf, known, blank, callsignValue}
 use Rattle.address.specs.Address.{withoutCallsign, addressOf, decodedOf, addressValue, writable, written, unwritten, encodedOf}
 use Rattle.address.proofs.Number.{number-zero, number-blank}

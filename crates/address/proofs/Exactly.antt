@@ -14,7 +14,7 @@ use Rattle.address.specs.declared.Address.the-variants.{Invalid, Callsig
 use Rattle.address.specs.declared.Heard.the-variants.{Read}
 use Rattle.address.specs.declared.Reading.{Reading}
 use Rattle.address.specs.declared.Written.{Written}
-use Rattle.address.specs.Value.{valueOf}
+use Rattle.laws.specs.Value.{valueOf}
 use Rattle.address.specs.Callsign.{callsignOf, digitOf, known, blank}
 use Rattle.address.specs.Address.{numberOfHeard, withoutCallsign, addressOf, decodedOf, writable, encodedOf}
 use Rattle.address.specs.When.{Foreign, AllSpaces, Unwritable, ReadExactly, WrittenExactly}

@@ -15,11 +15,11 @@ use Rattle.address.specs.declared.Address.the-variants.{Invalid, Callsig
 use Rattle.address.specs.declared.Heard.the-variants.{Read}
 use Rattle.address.specs.declared.Reading.{Reading}
 use Rattle.address.specs.declared.Written.{Written}
-use Rattle.address.specs.Value.{valueOf, bytesOf}
+use Rattle.laws.specs.Value.{valueOf, inBytes, Bytes}
 use Rattle.address.specs.Callsign.{upper, callsignOf, known, blank, callsignValue}
 use Rattle.address.specs.Address.{withoutCallsign, addressOf, decodedOf, addressValue, writable, written, unwritten, encodedOf}
 use Rattle.address.proofs.Number.{both-true, length-callsign, callsign-known, number-of-callsign, number-blank, number-lt, number-zero, callsign-of-number}
-use Rattle.address.proofs.Bytes.{Bytes, value-lt, length-bytes, bytes-of-value, value-of-bytes}
+use Rattle.laws.proofs.Number.{value-lt, length-in-bytes, bytes-of-value, value-of-bytes}
 use Rattle.address.proofs.EachKind.{read-six, invalid-at, callsign-at, reserved-at, broadcast-at, write-good, reserved-good}
 
 -- ---- read, then written
@@ -37,18 +37,18 @@ callsign-writable v n h = simp (callsign-known 9 v) (go (blank (callsignOf 9 v))
     go false e = refl
 
 -- every value has its address, which is written as the value
-value-back : (v : ℕ) → v ≤ 0xFFFFFFFFFFFF → Back (addressOf v) (bytesOf 6 v)
+value-back : (v : ℕ) → v ≤ 0xFFFFFFFFFFFF → Back (addressOf v) (inBytes 6 v)
 value-back v h = go (eqb v 0) (leb v 0xEE6B27FFFFFF) (leb v 0xFFFFFFFFFFFE) refl refl refl
   where
-    go : (a b c : Bool) → eqb v 0 ≡ a → leb v 0xEE6B27FFFFFF ≡ b → leb v 0xFFFFFFFFFFFE ≡ c → Back (addressOf v) (bytesOf 6 v)
+    go : (a b c : Bool) → eqb v 0 ≡ a → leb v 0xEE6B27FFFFFF ≡ b → leb v 0xFFFFFFFFFFFE ≡ c → Back (addressOf v) (inBytes 6 v)
     go true b c p q r =
         let e = eqb-true v 0 p in
-        subst (λ (x : Reading). Back x (bytesOf 6 v)) (sym (invalid-at v e))
+        subst (λ (x : Reading). Back x (inBytes 6 v)) (sym (invalid-at v e))
         (record { address = Invalid; reads = refl; writes = write-good Invalid (replicate 9 0) refl refl ∙ ap written (sym e) })
     go false true c p q r =
         let n = eqb-false v 0 p in
         let l = leb-true v 0xEE6B27FFFFFF q in
-        subst (λ (x : Reading). Back x (bytesOf 6 v)) (sym (callsign-at v n l))
+        subst (λ (x : Reading). Back x (inBytes 6 v)) (sym (callsign-at v n l))
         (record {
           address = Callsign;
           reads = refl;
@@ -59,12 +59,12 @@ value-back v h = go (eqb v 0) (leb v 0xEE6B27FFFFFF) (leb v 0xFFFFFFFFFFFE) refl
     go false false true p q r =
         let l = leb-false v 0xEE6B27FFFFFF q in
         let u = leb-true v 0xFFFFFFFFFFFE r in
-        subst (λ (x : Reading). Back x (bytesOf 6 v)) (sym (reserved-at v l u))
+        subst (λ (x : Reading). Back x (inBytes 6 v)) (sym (reserved-at v l u))
         (record { address = Reserved v; reads = refl; writes = write-good (Reserved v) (replicate 9 0) refl (reserved-good v (replicate 9 0) (omega arith) u) })
     go false false false p q r =
         let l = leb-false v 0xFFFFFFFFFFFE r in
         let e : 0xFFFFFFFFFFFF ≡ v = omega arith in
-        subst (λ (x : Reading). Back x (bytesOf 6 v)) (sym (broadcast-at v l))
+        subst (λ (x : Reading). Back x (inBytes 6 v)) (sym (broadcast-at v l))
         (record { address = Broadcast; reads = refl; writes = write-good Broadcast (replicate 9 0) refl refl ∙ ap written e })
 
 -- ---- written, then read
@@ -91,10 +91,10 @@ accepted a s = go (eqb (length s) 9) (writable a s) refl
     go false w h e = absurd (no e)
 
 -- bytes of a value read as the value does
-value-kept : (v : ℕ) → v ≤ 0xFFFFFFFFFFFF → decodedOf (bytesOf 6 v) ≡ addressOf v
-value-kept v h = read-six (bytesOf 6 v) (length-bytes 6 v) ∙ ap addressOf (value-of-bytes 6 v (omega arith))
+value-kept : (v : ℕ) → v ≤ 0xFFFFFFFFFFFF → decodedOf (inBytes 6 v) ≡ addressOf v
+value-kept v h = read-six (inBytes 6 v) (length-in-bytes 6 v) ∙ ap addressOf (value-of-bytes 6 v (omega arith))
 
-value-read : (a : Address) (s : List ℕ) → length s ≡ 9 → writable a s ≡ true → decodedOf (bytesOf 6 (addressValue a s)) ≡ readBack a s
+value-read : (a : Address) (s : List ℕ) → length s ≡ 9 → writable a s ≡ true → decodedOf (inBytes 6 (addressValue a s)) ≡ readBack a s
 value-read Invalid s h w = value-kept 0 (omega arith) ∙ invalid-at 0 refl
 value-read Callsign s h w =
     let k = both-true (known s) (not (blank s)) w .0 in
@@ -118,8 +118,8 @@ value-read Broadcast s h w = value-kept 0xFFFFFFFFFFFF (omega arith) ∙ broadca
 pub read-then-written : (s : List ℕ) → length s ≡ 6 → Bytes s → Back (decodedOf s) s
 read-then-written s h b =
     let top : valueOf s < 256 ^ 6 = subst (λ (n : ℕ). valueOf s < 256 ^ n) h (value-lt s b) in
-    let same : bytesOf 6 (valueOf s) ≡ s = ap (λ (n : ℕ). bytesOf n (valueOf s)) (sym h) ∙ bytes-of-value s b in
-    subst (Back (decodedOf s)) same (subst (λ (r : Reading). Back r (bytesOf 6 (valueOf s))) (sym (read-six s h)) (value-back (valueOf s) (omega arith)))
+    let same : inBytes 6 (valueOf s) ≡ s = ap (λ (n : ℕ). inBytes n (valueOf s)) (sym h) ∙ bytes-of-value s b in
+    subst (Back (decodedOf s)) same (subst (λ (r : Reading). Back r (inBytes 6 (valueOf s))) (sym (read-six s h)) (value-back (valueOf s) (omega arith)))
 
 -- whatever is accepted for writing reads back, a callsign in upper case
 pub written-then-read : (a : Address) (s : List ℕ) → encodedOf a s .answer ≡ verdict.Done → decodedOf (encodedOf a s .bytes) ≡ readBack a s

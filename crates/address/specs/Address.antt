@@ -14,7 +14,7 @@ use Rattle.address.specs.declared.Heard.{Heard}
 use Rattle.address.specs.declared.Heard.the-variants.{Read, Refused}
 use Rattle.address.specs.declared.Reading.{Reading}
 use Rattle.address.specs.declared.Written.{Written}
-use Rattle.address.specs.Value.{valueOf, bytesOf}
+use Rattle.laws.specs.Value.{valueOf, inBytes}
 use Rattle.address.specs.Callsign.{callsignOf, known, blank, callsignValue}
 
 -- the paper's number of an answer: 0 for what is no refusal
@@ -54,7 +54,7 @@ writable Broadcast s = true
 
 -- the six bytes of a value
 abbrev pub written : ℕ → Written
-written v = record { answer = verdict.Done; bytes = bytesOf 6 v }
+written v = record { answer = verdict.Done; bytes = inBytes 6 v }
 
 -- a refusal, with six zeros
 abbrev pub unwritten : Refusal → Written

@@ -1,4 +1,3 @@
-pub mod Value
 pub mod Callsign
 pub mod Address
 pub mod When

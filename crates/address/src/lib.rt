@@ -3,7 +3,7 @@ ghost use mathlib.Core.Path.{_≡_};
 ghost use mathlib.Core.Bool.{cond};
 ghost use Prim.Native.Nat.{_<_, _≤_};
 ghost use lib.ListN.{length};
-ghost use Rattle.address.specs.Value.{valueOf, bytesOf};
+ghost use Rattle.laws.specs.Value.{valueOf, inBytes};
 ghost use Rattle.address.specs.Callsign.{alphabet, upper, digitOf, callsignOf, known, callsignValue};
 ghost use Rattle.address.specs.Address.{withoutCallsign, decodedOf, written, unwritten, encodedOf};
 use refusal::Refusal;
@@ -67,7 +67,7 @@ fn value_of(encoded: &[u8]) -> u64
 // The six bytes of a number.
 fn bytes_of(value: u64) -> [u8; 6]
     requires { ⌜ value ≤ 0xFFFFFFFFFFFF ⌝ }
-    ensures { λ r. ⌜ r ≡ bytesOf 6 value ⌝ }
+    ensures { λ r. ⌜ r ≡ inBytes 6 value ⌝ }
 {
     let a = (value / 0x10000000000) as u8;
     let b = (value % 0x10000000000 / 0x100000000) as u8;

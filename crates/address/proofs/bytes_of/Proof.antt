@@ -1,5 +1,5 @@
 -- `address::bytes_of` meets its contract. Assumes nothing.
-use Rattle.address.proofs.Bytes.{bytes-six}
+use Rattle.address.proofs.Six.{bytes-six}
 use borrow.Author.Needs.{needs}
 use Rattle.address.proofs.bytes_of.Statement.{statement}
 use Rattle.address.proofs.bytes_of.Tie as tie

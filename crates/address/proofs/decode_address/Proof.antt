@@ -7,7 +7,7 @@ use lib.ListN.{length}
 use Rattle.address.specs.declared.Reading.{Reading}
 use Rattle.address.specs.declared.Address.the-variants.{Callsign}
 use Rattle.address.specs.declared.Heard.the-variants.{Read}
-use Rattle.address.specs.Value.{valueOf}
+use Rattle.laws.specs.Value.{valueOf}
 use Rattle.address.specs.Address.{addressOf, decodedOf}
 use Rattle.address.proofs.EachKind.{read-short, read-six, invalid-at, callsign-at, reserved-at, broadcast-at}
 use borrow.Author.Needs.{needs}

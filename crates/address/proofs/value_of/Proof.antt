@@ -1,7 +1,7 @@
 -- `address::value_of` meets its contract: nothing overflows, and the sum is the number of six bytes. Assumes nothing.
 use mathlib.Core.Path.{sym}
 use native.Mathlib.Omega.{arith}
-use Rattle.address.proofs.Bytes.{value-six}
+use Rattle.address.proofs.Six.{value-six}
 use borrow.Author.Needs.{needs}
 use Rattle.address.proofs.value_of.Statement.{statement}
 use Rattle.address.proofs.value_of.Tie as tie

@@ -4,4 +4,3 @@ pub mod Six
 pub mod EachKind
 pub mod RoundTrip
 pub mod Exactly
-pub mod Bench

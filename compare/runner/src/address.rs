@@ -137,7 +137,7 @@ fn to_write(random: &mut Random, wanted: &Wanted, take: Take) -> Result<(), Stop
         let value = random.number() >> random.below(64);
         give(2, value, &[b' '; 9])?;
     }
-    for kind in 0..=3 {
+    for kind in [0, 1, 2, 3, 4, 255] {
         for len in 0..20 {
             let value = CALLSIGNS_END + random.number() % (BROADCAST - CALLSIGNS_END);
             give(kind, value, &vec![b'A'; len])?;
@@ -151,7 +151,8 @@ fn to_write(random: &mut Random, wanted: &Wanted, take: Take) -> Result<(), Stop
 
 /// The characters are looked at only for a callsign, but there have to be nine of them.
 /// Shared with the Rust: invalid, broadcast, callsigns of the alphabet that are not all spaces, and reserved values
-/// of their range. Everything else the Rust writes as something, and ours refuses with 6.
+/// of their range. Other callsigns and values the Rust writes as something, and ours refuses with 6; a kind that is
+/// none of the four cannot be said in the Rust, and ours refuses it with 2.
 fn write(input: &[u8]) -> Said {
     let (kind, value) = (input[0], u64::from_be_bytes(input[1..9].try_into().unwrap()));
     let callsign = &input[9..];
@@ -162,7 +163,8 @@ fn write(input: &[u8]) -> Said {
         (Ok(nine), 1) if readable(&nine) => Ok(address::Address::Callsign(Callsign(nine))),
         (Ok(_), 2) if (CALLSIGNS_END..BROADCAST).contains(&value) => Ok(address::Address::Reserved(value)),
         (Ok(_), 3) => Ok(address::Address::Broadcast),
-        (Ok(_), _) => Err(refused(6)),
+        (Ok(_), 1 | 2) => Err(refused(6)),
+        (Ok(_), _) => Err(refused(2)),
     };
     let rust = rust.map(|address| address::encode_address(&address));
     if rust != ours {

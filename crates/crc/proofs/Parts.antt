@@ -14,7 +14,7 @@ use Rattle.laws.specs.Division.{rem}
 use Rattle.laws.specs.Value.{valueOf, Bytes}
 use Rattle.laws.proofs.Xor.{xor-assoc}
 use Rattle.laws.proofs.Divide.{shl-xor, rem-lt, rem-xor, rem-small, rem-shift}
-use Rattle.laws.proofs.Number.{value-lt, value-append}
+use Rattle.laws.proofs.Number.{value-lt, value-append, bits-of-bytes}
 use Rattle.crc.specs.Crc.{crcFrom, byteRemainder}
 
 poly-lt : 0x5935 < 2 ^ 16
@@ -27,7 +27,7 @@ dividend r s = bitXor (r * 2 ^ (8 * length s)) (valueOf s * 2 ^ 16)
 message-lt : (s : List ℕ) → Bytes s → valueOf s * 2 ^ 16 < 2 ^ (16 + 8 * length s)
 message-lt s h =
     let p : 8 * length s + 16 ≡ 16 + 8 * length s = omega arith in
-    subst (λ (n : ℕ). valueOf s * 2 ^ 16 < 2 ^ n) p (shl-lt (8 * length s) 16 (value-lt s h))
+    subst (λ (n : ℕ). valueOf s * 2 ^ 16 < 2 ^ n) p (shl-lt (8 * length s) 16 (subst (λ (n : ℕ). valueOf s < n) (bits-of-bytes (length s)) (value-lt s h)))
 
 dividend-lt : (r : ℕ) (s : List ℕ) → r < 65536 → Bytes s → dividend r s < 2 ^ (16 + 8 * length s)
 dividend-lt r s hr h = xor-lt (16 + 8 * length s) (r * 2 ^ (8 * length s)) (valueOf s * 2 ^ 16) (shl-lt 16 (8 * length s) hr) (message-lt s h)
@@ -51,7 +51,7 @@ dividend-append r s t h =
     let back : valueOf s * 2 ^ (16 + 8 * length t) ≡ valueOf s * 2 ^ 16 * 2 ^ (8 * length t) =
     ap (λ (k : ℕ). valueOf s * k) (pow-add 2 16 (8 * length t)) ∙ sym (mul-assoc (valueOf s) (2 ^ 16) (2 ^ (8 * length t))) in
     let message : valueOf (s ++ t) * 2 ^ 16 ≡ bitXor (valueOf s * 2 ^ 16 * 2 ^ (8 * length t)) (valueOf t * 2 ^ 16) =
-    ap (λ (k : ℕ). k * 2 ^ 16) (value-append s t) ∙ add-mul (valueOf s * 2 ^ (8 * length t)) (valueOf t) (2 ^ 16)
+    ap (λ (k : ℕ). k * 2 ^ 16) (value-append s t ∙ ap (λ (k : ℕ). valueOf s * k + valueOf t) (bits-of-bytes (length t))) ∙ add-mul (valueOf s * 2 ^ (8 * length t)) (valueOf t) (2 ^ 16)
     ∙ ap (λ (k : ℕ). k + valueOf t * 2 ^ 16) swap ∙ sym (xor-shifted (valueOf s) (16 + 8 * length t) (valueOf t * 2 ^ 16) (message-lt t h))
     ∙ ap (λ (k : ℕ). bitXor k (valueOf t * 2 ^ 16)) back in
     ap₂ bitXor start message

@@ -1,10 +1,8 @@
 -- `m17::m17_interleave` meets its contract. Assumes nothing.
 use mathlib.Core.Path.{sym, ap, _∙_}
-use Rattle.refusal.specs.declared.Verdict.{Verdict}
-use Rattle.refusal.specs.Number.{saidOf}
 use Rattle.interleave.specs.declared.Interleaved.{Interleaved}
 use Rattle.interleave.specs.Interleave.{interleavedOf}
-use Rattle.m17.specs.Given.{bytesGiven}
+use Rattle.m17.proofs.Lent.{when-done, when-refused}
 use borrow.Author.Needs.{needs}
 use Rattle.m17.proofs.m17_interleave.Statement.{statement}
 use Rattle.m17.proofs.m17_interleave.Tie as tie
@@ -24,17 +22,19 @@ number-requires c κs = search needs
 returns : tie.Need-returns
 returns c =
     let g = c .before .before .before in
-    let e = sym (ap (λ (r : Interleaved). r .answer) (g .interleave .ensures)) ∙ c .before .enum-told .given .1 in
-    let bytes = ap (λ (r : Interleaved). r .bytes) (g .interleave .ensures) in
-    (sym (ap saidOf e), bytes ∙ sym (ap (λ (a : Verdict). bytesGiven a (interleavedOf (g .before .before .args .payload .now) .bytes) (g .before .before .args .out .now)) e))
+    let a = g .before .before .args in
+    let done = interleavedOf (a .payload .now) in
+    when-done (done .answer) (g .interleave .result .bytes) (done .bytes) (a .out .now)
+    (sym (ap (λ (r : Interleaved). r .answer) (g .interleave .ensures)) ∙ c .before .enum-told .given .1)
+    (ap (λ (r : Interleaved). r .bytes) (g .interleave .ensures))
 
 returns-2 : tie.Need-returns-2
 returns-2 c =
     let g = c .before .before .before .before in
-    let e = sym (ap (λ (r : Interleaved). r .answer) (g .interleave .ensures)) ∙ c .before .before .answer .given .1 in (
-      c .number .ensures ∙ sym (ap saidOf e),
-      sym (ap (λ (a : Verdict). bytesGiven a (interleavedOf (g .before .before .args .payload .now) .bytes) (g .before .before .args .out .now)) e),
-    )
+    let a = g .before .before .args in
+    let done = interleavedOf (a .payload .now) in
+    when-refused (done .answer) _ (c .number .result) (done .bytes) (a .out .now)
+    (sym (ap (λ (r : Interleaved). r .answer) (g .interleave .ensures)) ∙ c .before .before .answer .given .1) (c .number .ensures)
 
 pub m17-interleave-spec : {M : Type 1} → statement M
 m17-interleave-spec =

@@ -3,8 +3,8 @@ use runner::random::Random;
 use std::hint::black_box;
 use std::time::Instant;
 
-/// Inputs are timed in lots of this size, and of each lot the best round counts: a pause by other work on the
-/// machine then spoils one lot of one round and not the figure.
+/// Inputs are timed in lots of this size, and of each lot the best round counts: a pause then spoils one lot of one
+/// round and not the figure.
 const LOT: usize = 100;
 
 struct Bench {
@@ -90,7 +90,7 @@ fn main() {
         let place = words.iter().position(|word| word == name);
         place.map_or(usual, |at| words.get(at + 1).and_then(|word| word.parse().ok()).expect("a number"))
     };
-    let mut bench = Bench { random: Random::new(number("--seed", 1)), rounds: number("--rounds", 15) as usize };
+    let mut bench = Bench { random: Random::new(number("--seed", 1)), rounds: number("--rounds", 10) as usize };
     println!("nanoseconds a call, best of {} rounds; ratio: ours to the Rust's", bench.rounds);
     println!("{:28} {:>7} {:>10} {:>10} {:>7}", "name", "inputs", "the Rust", "ours", "ratio");
     leaves(&mut bench);

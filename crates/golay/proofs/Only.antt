@@ -5,9 +5,11 @@ use Prim.Native.Nat.{ℕ, zero, suc, _^_, _≤_, _<_}
 use native.Mathlib.Omega.{arith}
 use lib.Dec.{leb, lit≤}
 use borrow.Author.Tests.{lt-ltb, le-ltb, leb-true}
-use Rattle.refusal.specs.declared.Refusal.the-variants.{BadGolay}
+use Rattle.refusal.specs.declared.Refusal.the-variants.{OutOfRange, BadGolay}
 use Rattle.golay.specs.declared.Reading.the-variants.{Data, Refused}
-use Rattle.golay.specs.Golay.{golay, apart, nearBelow, decodedOf}
+use Rattle.golay.specs.declared.Codeword.the-variants as codeword
+use Rattle.golay.specs.declared.Codeword.the-variants.{Word}
+use Rattle.golay.specs.Golay.{golay, apart, nearBelow, decodedOf, encodedOf, numberOfReading, numberOfCodeword}
 use Rattle.golay.proofs.Linear.{golay-lt}
 use Rattle.golay.proofs.Near.{apart-self, near-found, near-none}
 
@@ -59,3 +61,21 @@ reads w h =
 pub over : (w : ℕ) → 2 ^ 24 ≤ w → decodedOf w ≡ Refused BadGolay
 unfolding decodedOf
 over w h = ap (λ (t : Bool). cond t (nearBelow 4096 w) (Refused BadGolay)) (le-ltb w (2 ^ 24) h)
+
+-- ---- the numbers of the refusals
+
+-- reading gives 4 exactly when no codeword is within three flips, and 0 else
+pub read-four : (w : ℕ) → w < 2 ^ 24 → ((d : ℕ) → d < 4096 → apart (golay d) w ≤ 3 → ⊥) → numberOfReading (decodedOf w) ≡ 4
+read-four w h f = ap numberOfReading (reads w h .none f)
+
+pub read-zero : (w d : ℕ) → w < 2 ^ 24 → d < 4096 → apart (golay d) w ≤ 3 → numberOfReading (decodedOf w) ≡ 0
+read-zero w d h k l = ap numberOfReading (three-flips w d h k l)
+
+-- writing gives 2 exactly for data over 12 bits
+pub written-two : (d : ℕ) → 4096 ≤ d → numberOfCodeword (encodedOf d) ≡ 2
+unfolding encodedOf
+written-two d h = ap (λ (t : Bool). numberOfCodeword (cond t (Word (golay d)) (codeword.Refused OutOfRange))) (le-ltb d 4096 h)
+
+pub written-zero : (d : ℕ) → d < 4096 → encodedOf d ≡ Word (golay d)
+unfolding encodedOf
+written-zero d h = ap (λ (t : Bool). cond t (Word (golay d)) (codeword.Refused OutOfRange)) (lt-ltb d 4096 h)

@@ -6,7 +6,7 @@ use lib.Bits.{bitXor}
 
 -- The divisor is x^w and below it the terms g.
 module _ (w g : ℕ) where
-  -- one step at place k: where a has its bit w + k set, the divisor is taken away there
+  -- one step at place k, for a of at most w + k + 1 bits: where its bit w + k is set, the divisor is taken away there
   unfoldable pub reduce : ℕ → ℕ → ℕ
   reduce k a = cond (eqb (a / 2 ^ (w + k)) 1) (bitXor a ((2 ^ w + g) * 2 ^ k)) a
 

@@ -1,5 +1,5 @@
-// The codec for C and Rust. Each function answers 0 or the number of its refusal, and writes what it answers through
-// lent memory, which a refusal leaves as it was.
+// The codec for C and Rust. A function that can refuse returns 0 or the number of its refusal, and writes what it answers
+// through lent memory, which a refusal leaves as it was.
 ghost use mathlib.Core.Path.{_≡_};
 ghost use Rattle.refusal.specs.Number.{saidOf};
 ghost use Rattle.bits.specs.Places.{getOf, setOf, withBit, numberOfBit};

@@ -5,7 +5,7 @@ use lib.Bits.{bitXor}
 use lib.ListN.{length, getD}
 use Rattle.laws.specs.Tabled.{tabled}
 
--- the document's RANDOM_SEQ
+-- RANDOM_SEQ, the same in the specification and in the Rust
 unfoldable pub randomSeq : List ℕ
 randomSeq =
     0xD6 ∷ 0xB5 ∷ 0xE2 ∷ 0x30 ∷ 0x82 ∷ 0xFF ∷ 0x84 ∷ 0x62 ∷ 0xBA ∷ 0x4E ∷ 0x96 ∷ 0x90 ∷ 0xD8 ∷ 0x98 ∷ 0xDD ∷ 0x5D

@@ -1,4 +1,4 @@
--- The number of each refusal, as the table "When the desk says no" has it. Assumes nothing.
+-- The number of each refusal: 1 to 12 as the table "When the desk says no" has them, 13 to 15 kept for later requests. Assumes nothing.
 use Prim.Native.Nat.{ℕ}
 use Rattle.refusal.specs.declared.Refusal.{Refusal}
 use Rattle.refusal.specs.declared.Refusal.the-variants.{WrongLength, OutOfRange, TooFar, BadGolay, BadHeader, BadAddress, UnknownSync, OutOfTurn, BadFinal, TooShort, BadPacket, BadState, BadSample, Ended, Full}

@@ -18,7 +18,7 @@ pub enum Refusal {
     BadAddress,
     // 7: the sync is none of the four.
     UnknownSync,
-    // 8: a packet slot out of turn.
+    // 8: a packet slot out of turn, or no packet open.
     OutOfTurn,
     // 9: a final length of 0 or over 25.
     BadFinal,
@@ -26,7 +26,7 @@ pub enum Refusal {
     TooShort,
     // 11: a packet's CRC is not zero.
     BadPacket,
-    // 12: a state that no run reaches.
+    // 12: a state with n over 32 or k over 5.
     BadState,
     // 13: a sample that is not finite or is too large.
     BadSample,

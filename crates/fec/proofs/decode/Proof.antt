@@ -1,0 +1,48 @@
+-- `fec::decode` meets its contract. Assumes nothing.
+use native.Mathlib.Omega.{arith}
+use Rattle.fec.proofs.Bodies.{plan-fits, reads-short, reads-word, reads-far}
+use borrow.Author.Needs.{needs}
+use Rattle.fec.proofs.decode.Statement.{statement}
+use Rattle.fec.proofs.decode.Tie as tie
+
+plan-of-requires : tie.Need-plan-of-requires
+plan-of-requires c κs = search needs
+
+returns : tie.Need-returns
+returns c =
+    let a = c .before .before .before .before .args in
+    let pl = c .before .before .plan-of in
+    reads-short (a .kind) (pl .result) (pl .ensures) (a .received .now) (c .if1 .taken)
+
+search-requires : tie.Need-search-requires
+search-requires c κs =
+    let a = c .before .before .before .before .args in
+    let pl = c .before .before .plan-of in
+    let f = plan-fits (a .kind) (pl .result) (pl .ensures) (a .received .now) in
+    (omega (arith, f .full, c .if1 .left), omega (arith, f .short, c .if1 .left), f .few, f .low)
+
+pack-word-requires : tie.Need-pack-word-requires
+pack-word-requires c κs =
+    let a = c .before .before .before .before .before .before .before .before .args in
+    let pl = c .before .before .before .before .before .before .plan-of in
+    plan-fits (a .kind) (pl .result) (pl .ensures) (a .received .now) .few
+
+returns-2 : tie.Need-returns-2
+returns-2 c =
+    let a = c .before .before .before .before .before .before .before .before .before .args in
+    let pl = c .before .before .before .before .before .before .before .plan-of in
+    let r = c .before .before .before .before .search in
+    reads-word (a .kind) (pl .result) (pl .ensures) (a .received .now) (c .before .before .before .before .before .if1 .left) (r .result .found) (r .result .word) (r .ensures)
+    (c .before .before .before .if2 .taken) (c .pack-word .result) (c .pack-word .ensures)
+
+returns-3 : tie.Need-returns-3
+returns-3 c =
+    let a = c .before .before .before .before .before .before .args in
+    let pl = c .before .before .before .before .plan-of in
+    let r = c .before .search in
+    reads-far (a .kind) (pl .result) (pl .ensures) (a .received .now) (c .before .before .if1 .left) (r .result .found) (r .result .word) (r .ensures) (c .if2 .left)
+
+pub decode-spec : {M : Type 1} → statement M
+decode-spec =
+    tie.close
+    (tie.spec plan-of-requires returns search-requires pack-word-requires returns-2 returns-3)

@@ -1,0 +1,62 @@
+-- `fec::pack_word` meets its contract. Assumes nothing.
+use native.Mathlib.Omega.{arith}
+use mathlib.Core.Path.{refl, sym, _∙_}
+use Prim.Native.Nat.{_*_, _-_, _≤_}
+use lib.ListN.{drop, take}
+use Rattle.laws.proofs.Values.{Filled, filled-none, filled-more, filled-all}
+use Rattle.bits.specs.Bits.{byteOf}
+use Rattle.bits.proofs.Back.{bytes-tabled}
+use borrow.Author.Needs.{needs}
+use Rattle.fec.proofs.pack_word.Statement.{statement}
+use Rattle.fec.proofs.pack_word.Tie as tie
+
+abbrev Inv-loop : tie.InvT-loop
+Inv-loop w n out₀ i₀ out i = (i ≤ 30) × Filled (λ k. byteOf (drop (8 * k) (take n w))) 30 0 out i
+
+abbrev μ-loop : tie.MeasureT-loop
+μ-loop w n out₀ i₀ out i = 30 - i
+
+loop-holds : tie.Need-loop-holds Inv-loop μ-loop
+loop-holds c = (omega arith, filled-none _ 30 0 _ refl)
+
+mul-byte-at : tie.Need-mul-byte-at Inv-loop μ-loop
+mul-byte-at c = search needs
+
+byte-at-requires : tie.Need-byte-at-requires Inv-loop μ-loop
+byte-at-requires c κs = search needs
+
+array-write-out : tie.Need-array-write-out Inv-loop μ-loop
+array-write-out c = search needs
+
+add-i : tie.Need-add-i Inv-loop μ-loop
+add-i c = search needs
+
+loop-less : tie.Need-loop-less Inv-loop μ-loop
+loop-less c = search needs
+
+loop-again : tie.Need-loop-again Inv-loop μ-loop
+loop-again c =
+    let l = c .before .before .before .loop in
+    let a = c .before .before .before .before .args in
+    (omega arith, filled-more (λ k. byteOf (drop (8 * k) (take (a .n) (a .w .now)))) 30 0 (l .out) (l .i) (c .byte-at .result) (omega arith) (l .inv .1) (c .byte-at .ensures))
+
+returns : tie.Need-returns Inv-loop μ-loop
+returns c =
+    let l = c .before .loop in
+    let a = c .before .before .args in
+    filled-all (λ k. byteOf (drop (8 * k) (take (a .n) (a .w .now)))) 30 0 (l .out) (l .i) (omega arith) (l .inv .1) ∙ sym (bytes-tabled 30 (take (a .n) (a .w .now)))
+
+pub pack-word-spec : {M : Type 1} → statement M
+pack-word-spec =
+    tie.close
+    (tie.spec
+    Inv-loop
+    μ-loop
+    loop-holds
+    mul-byte-at
+    byte-at-requires
+    array-write-out
+    add-i
+    loop-less
+    loop-again
+    returns)

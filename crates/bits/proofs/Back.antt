@@ -11,6 +11,7 @@ use lib.Seq.{drop-drop, ext-getD, getD-drop, getD-take}
 use Rattle.laws.specs.Tabled.{tabled}
 use Rattle.laws.proofs.Every.{every-at}
 use Rattle.laws.proofs.Values.{tabled-only}
+use Rattle.laws.proofs.Padded.{padded-at}
 use Rattle.bits.specs.Bits.{odd, bit, eight, bitsOf, byteOf, bytesOf}
 
 -- each is a byte
@@ -209,19 +210,13 @@ drop-bits n s = ap (λ (m : ℕ). drop m (bitsOf s)) (sym (octuple-is n)) ∙ dr
 
 -- ---- fewer bits than the bytes hold
 
-zeros-at : (n k : ℕ) → getD (replicate n false) k false ≡ false
-zeros-at zero k = refl
-zeros-at (suc n) zero = refl
-zeros-at (suc n) (suc k) = zeros-at n k
-
--- zeros past the end change no bit
-pub padded-at : (l : List Bool) (n k : ℕ) → getD (l ++ replicate n false) k false ≡ getD l k false
-padded-at [] n k = zeros-at n k
-padded-at (x ∷ l) n zero = refl
-padded-at (x ∷ l) n (suc k) = padded-at l n k
+-- bytes of zeros past the end add no bit that is set
+pub padded-bit : (s : List ℕ) (n k : ℕ) → getD (bitsOf (s ++ replicate n 0)) k false ≡ getD (bitsOf s) k false
+padded-bit s n k =
+    bit-at (s ++ replicate n 0) k ∙ ap (λ (x : ℕ). odd (x / 2 ^ (7 - k % 8))) (padded-at 0 s n (k / 8)) ∙ sym (bit-at s k)
 
 -- what is packed into bytes that hold more comes back, and then zeros
 pub bits-bytes-padded : (n m : ℕ) (l : List Bool) → length l + m ≡ 8 * n → bitsOf (bytesOf n l) ≡ l ++ replicate m false
 bits-bytes-padded n m l h =
-    ap bitsOf (bytes-alike n l (l ++ replicate m false) (λ k b. sym (padded-at l m k)))
+    ap bitsOf (bytes-alike n l (l ++ replicate m false) (λ k b. sym (padded-at false l m k)))
     ∙ bits-bytes n (l ++ replicate m false) (length-append l (replicate m false) ∙ ap (λ (k : ℕ). length l + k) (length-replicate m false) ∙ h)

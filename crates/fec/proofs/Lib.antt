@@ -10,3 +10,6 @@ pub mod Tracing
 pub mod Packed
 pub mod Written
 pub mod Bodies
+pub mod When
+pub mod Round
+pub mod Bench

@@ -9,7 +9,7 @@ use native.Mathlib.Decide.{decLt}
 use native.Mathlib.Omega.{arith}
 use lib.ListN.{length, take, drop, getD, set, replicate, length-set, length-append, drop-of-length-le, List·getD-eq-default}
 use lib.Seq.{drop-cons, take-suc-set, length-take-le, getD-take}
-use Rattle.bits.proofs.Back.{padded-at}
+use Rattle.laws.proofs.Padded.{replicate-at, padded-at}
 use Rattle.fec.specs.declared.Sends.{Sends}
 use Rattle.fec.specs.Code.{_⊕_, sent, coded, code, flushed}
 use Rattle.fec.specs.Search.{count, sofar}
@@ -23,10 +23,10 @@ module _ (n : ℕ) (l : List Bool) (fits : n ≤ length l) where
   length-flushed = length-append (take n l) (replicate 4 false) ∙ ap (λ (m : ℕ). m + 4) (length-take-le n l fits)
 
   pub flushed-in : (t : ℕ) → t < n → getD (flushed (take n l)) t false ≡ getD l t false
-  flushed-in t h = padded-at (take n l) 4 t ∙ getD-take n l t false h
+  flushed-in t h = padded-at false (take n l) 4 t ∙ getD-take n l t false h
 
   pub flushed-past : (t : ℕ) → n ≤ t → getD (flushed (take n l)) t false ≡ false
-  flushed-past t h = padded-at (take n l) 4 t ∙ kept-past l n t h
+  flushed-past t h = padded-at false (take n l) 4 t ∙ kept-past l n t h
 
 -- ---- a store at the end of what is written
 
@@ -51,7 +51,7 @@ pub record Encoding (p : ℕ → Sends) (word out : List Bool) (at : ℕ) (b₁ 
 module _ (p : ℕ → Sends) (word : List Bool) where
   pub encoding-start : Encoding p word (replicate 368 false) 0 false false false false 0
   unfolding code sofar
-  encoding-start = record { within = omega arith; place = refl; long = refl; written = refl; clear = λ k h. padded-at [] 368 k }
+  encoding-start = record { within = omega arith; place = refl; long = refl; written = refl; clear = λ k h. replicate-at false 368 k }
 
   module _ (out : List Bool) (at : ℕ) (b₁ b₂ b₃ b₄ : Bool) (t : ℕ) (so : Encoding p word out at b₁ b₂ b₃ b₄ t) where
     pub encoding-step : t < length word → (e : Sends) → e ≡ p t → (b g₁ g₂ : Bool) → b ≡ getD word t false → g₁ ≡ b ⊕ b₃ ⊕ b₄ → g₂ ≡ b ⊕ b₁ ⊕ b₂ ⊕ b₄

@@ -3,3 +3,4 @@ pub mod Values
 pub mod InPlace
 pub mod Xor
 pub mod Divide
+pub mod Padded

@@ -8,7 +8,7 @@ use native.Mathlib.Numerals.{add-one}
 use native.Mathlib.Decide.{decLt}
 use native.Mathlib.Omega.{arith}
 use lib.ListN.{length, take, drop, getD, set, replicate, length-set, length-append, drop-of-length-le, List·getD-eq-default}
-use lib.Seq.{drop-cons, take-suc-set, length-take-le, getD-take}
+use lib.Seq.{drop-cons, take-suc-set, length-take-le, getD-take, getD-set-other}
 use Rattle.laws.proofs.Padded.{replicate-at, padded-at}
 use Rattle.fec.specs.declared.Sends.{Sends}
 use Rattle.fec.specs.Code.{_⊕_, sent, coded, code, flushed}
@@ -30,15 +30,29 @@ module _ (n : ℕ) (l : List Bool) (fits : n ≤ length l) where
 
 -- ---- a store at the end of what is written
 
-pub stored : (out : List Bool) (at : ℕ) (g : Bool) → at < length out → take (at + 1) (set out at g) ≡ take at out ++ (g ∷ [])
+stored : (out : List Bool) (at : ℕ) (g : Bool) → at < length out → take (at + 1) (set out at g) ≡ take at out ++ (g ∷ [])
 stored out at g h = rw (add-one at) (take-suc-set out at g h)
 
-pub stored-two : (out : List Bool) (at : ℕ) (g k : Bool) → at + 1 < length out → take (at + 2) (set (set out at g) (at + 1) k) ≡ take at out ++ (g ∷ k ∷ [])
+stored-two : (out : List Bool) (at : ℕ) (g k : Bool) → at + 1 < length out → take (at + 2) (set (set out at g) (at + 1) k) ≡ take at out ++ (g ∷ k ∷ [])
 stored-two out at g k h =
     let e : at + 2 ≡ at + 1 + 1 = omega arith in
     ap (λ (m : ℕ). take m (set (set out at g) (at + 1) k)) e
     ∙ stored (set out at g) (at + 1) k (omega (arith, length-set out at g))
     ∙ ap (λ (l : List Bool). l ++ (k ∷ [])) (stored out at g (omega arith)) ∙ append-assoc (take at out) (g ∷ []) (k ∷ [])
+
+-- where one bit is sent it is stored, and nothing after it changes
+pub put-one : (out : List Bool) (at : ℕ) (g : Bool) (l : List Bool) → l ≡ g ∷ [] → at < length out
+    → (take (at + 1) (set out at g) ≡ take at out ++ l) × ((k : ℕ) → at + 1 ≤ k → getD (set out at g) k false ≡ getD out k false)
+put-one out at g l e h = (stored out at g h ∙ ap (λ (l : List Bool). take at out ++ l) (sym e), λ k q. getD-set-other out at k g false (λ r. omega arith))
+
+-- where both are, so are both
+pub put-both : (out : List Bool) (at : ℕ) (g g′ : Bool) (l : List Bool) → l ≡ g ∷ g′ ∷ [] → at + 1 < length out
+    → (take (at + 2) (set (set out at g) (at + 1) g′) ≡ take at out ++ l)
+    × ((k : ℕ) → at + 2 ≤ k → getD (set (set out at g) (at + 1) g′) k false ≡ getD out k false)
+put-both out at g g′ l e h = (
+  stored-two out at g g′ h ∙ ap (λ (l : List Bool). take at out ++ l) (sym e),
+  λ k q. getD-set-other (set out at g) (at + 1) k g′ false (λ r. omega arith) ∙ getD-set-other out at k g false (λ r. omega arith),
+)
 
 -- ---- the loop
 pub record Encoding (p : ℕ → Sends) (word out : List Bool) (at : ℕ) (b₁ b₂ b₃ b₄ : Bool) (t : ℕ) : Type 0 where

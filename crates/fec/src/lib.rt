@@ -345,7 +345,7 @@ fn earlier(row: [u8; 32], s: usize) -> usize
 // The word traced back from its last transition.
 fn backward(table: &[[u8; 32]; 244], n: usize, last: usize) -> [bool; 244]
     requires { ⌜ (n ≤ 240) × (last < 32) ⌝ }
-    ensures { λ r. ⌜ Traced (now (table .entry)) n last r ⌝ }
+    ensures { λ r. ⌜ Traced (now (table .entry)) n last r × (length r ≡ 244) ⌝ }
 {
     let mut word = [false; 244];
     let mut i = last;
@@ -368,7 +368,7 @@ struct Reading {
 // The nearest word, where its distance is within the limit.
 fn search(rx: &[u8], n: usize, p: Puncture, limit: u8) -> Reading
     requires { ⌜ (sofar (sends p) (n + 4) ≤ 8 * length (now rx)) × (length (now rx) ≤ 46) × (n ≤ 240) × (limit < 255) ⌝ }
-    ensures { λ r. ⌜ outcome n (r .found) (r .word) ≡ readOf (sends p) n limit (bitsOf (now (rx .entry))) ⌝ }
+    ensures { λ r. ⌜ (outcome n (r .found) (r .word) ≡ readOf (sends p) n limit (bitsOf (now (rx .entry)))) × (length (r .word) ≡ 244) ⌝ }
 {
     let table = forward(rx, n + 4, p);
     let row = table[n + 3];
@@ -423,27 +423,14 @@ fn byte_at(w: &[bool], n: usize, j: usize) -> u8
     )
 }
 
-// The first n bits of a word, packed.
-fn pack_word(w: &[bool; 244], n: usize) -> [u8; 30]
-    requires { ⌜ n ≤ 240 ⌝ }
-    ensures { λ r. ⌜ r ≡ bytesOf 30 (take n (now (w .entry))) ⌝ }
+// The first n bits packed, zeros past them.
+fn pack(w: &[bool], n: usize, out: &mut [u8])
+    requires { ⌜ (n ≤ length (now w)) × (length (now out) ≤ 46) ⌝ }
+    ensures { λ r. ⌜ now (out .exit) ≡ bytesOf (length (now (out .entry))) (take n (now (w .entry))) ⌝ }
 {
-    let mut out = [0u8; 30];
-    for i in 0..30usize {
+    for i in 0..out.len() {
         out[i] = byte_at(w, n, 8 * i);
     }
-    out
-}
-
-// The coded bits, packed.
-fn pack_code(w: &[bool; 368]) -> [u8; 46]
-    ensures { λ r. ⌜ r ≡ bytesOf 46 (take 368 (now (w .entry))) ⌝ }
-{
-    let mut out = [0u8; 46];
-    for i in 0..46usize {
-        out[i] = byte_at(w, 368, 8 * i);
-    }
-    out
 }
 
 // The first n bits of the nearest word.
@@ -462,9 +449,11 @@ pub fn decode(kind: Kind, received: &[u8]) -> Decoded
     let r = search(received, n, p, plan.limit);
     if r.found {
         let w = r.word;
+        let mut bytes = [0u8; 30];
+        pack(&w, n, &mut bytes);
         return Decoded {
             answer: Verdict::Done,
-            bytes: pack_word(&w, n),
+            bytes: bytes,
         };
     }
     Decoded {
@@ -547,8 +536,10 @@ pub fn encode(kind: Kind, plain: &[u8]) -> Coded
     }
     let p = plan.puncture;
     let out = code_bits(plain, plan.bits, p);
+    let mut bytes = [0u8; 46];
+    pack(&out, 368, &mut bytes);
     Coded {
         answer: Verdict::Done,
-        bytes: pack_code(&out),
+        bytes: bytes,
     }
 }

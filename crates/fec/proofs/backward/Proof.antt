@@ -58,7 +58,7 @@ returns : tie.Need-returns Inv-loop μ-loop
 returns c =
     let a = c .before .before .args in
     let l = c .before .loop in
-    tracing-end (a .table .now) (a .n) (a .last) (l .step) (l .i) (l .word) (omega arith) (l .inv .3)
+    (tracing-end (a .table .now) (a .n) (a .last) (l .step) (l .i) (l .word) (omega arith) (l .inv .3), l .inv .2)
 
 pub backward-spec : {M : Type 1} → statement M
 backward-spec =

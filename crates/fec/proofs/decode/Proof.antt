@@ -21,28 +21,42 @@ search-requires c κs =
     let f = plan-fits (a .kind) (pl .result) (pl .ensures) (a .received .now) in
     (omega (arith, f .full, c .if1 .left), omega (arith, f .short, c .if1 .left), f .few, f .low)
 
-pack-word-requires : tie.Need-pack-word-requires
-pack-word-requires c κs =
-    let a = c .before .before .before .before .before .before .before .before .args in
-    let pl = c .before .before .before .before .before .before .plan-of in
-    plan-fits (a .kind) (pl .result) (pl .ensures) (a .received .now) .few
+slice-aggregate-pack : tie.Need-slice-aggregate-pack
+slice-aggregate-pack c = search needs
+
+slice-aggregate-pack-2 : tie.Need-slice-aggregate-pack-2
+slice-aggregate-pack-2 c = search needs
+
+pack-requires : tie.Need-pack-requires
+pack-requires c κs =
+    let a = c .before .before .before .before .before .before .before .before .before .args in
+    let pl = c .before .before .before .before .before .before .before .plan-of in
+    (omega (arith, plan-fits (a .kind) (pl .result) (pl .ensures) (a .received .now) .few, c .before .before .before .before .search .ensures .1), omega arith)
 
 returns-2 : tie.Need-returns-2
 returns-2 c =
-    let a = c .before .before .before .before .before .before .before .before .before .args in
-    let pl = c .before .before .before .before .before .before .before .plan-of in
-    let r = c .before .before .before .before .search in
-    reads-word (a .kind) (pl .result) (pl .ensures) (a .received .now) (c .before .before .before .before .before .if1 .left) (r .result .found) (r .result .word) (r .ensures)
-    (c .before .before .before .if2 .taken) (c .pack-word .result) (c .pack-word .ensures)
+    let a = c .before .before .before .before .before .before .before .before .before .before .before .args in
+    let pl = c .before .before .before .before .before .before .before .before .before .plan-of in
+    let r = c .before .before .before .before .before .before .search in
+    let packed = c .before .pack in
+    reads-word (a .kind) (pl .result) (pl .ensures) (a .received .now) (c .before .before .before .before .before .before .before .if1 .left) (r .result .found) (r .result .word) (r .ensures .0) (c .before .before .before .before .before .if2 .taken) (packed .last .1 .1 .0) (packed .ensures)
 
 returns-3 : tie.Need-returns-3
 returns-3 c =
     let a = c .before .before .before .before .before .before .args in
     let pl = c .before .before .before .before .plan-of in
     let r = c .before .search in
-    reads-far (a .kind) (pl .result) (pl .ensures) (a .received .now) (c .before .before .if1 .left) (r .result .found) (r .result .word) (r .ensures) (c .if2 .left)
+    reads-far (a .kind) (pl .result) (pl .ensures) (a .received .now) (c .before .before .if1 .left) (r .result .found) (r .result .word) (r .ensures .0) (c .if2 .left)
 
 pub decode-spec : {M : Type 1} → statement M
 decode-spec =
     tie.close
-    (tie.spec plan-of-requires returns search-requires pack-word-requires returns-2 returns-3)
+    (tie.spec
+    plan-of-requires
+    returns
+    search-requires
+    slice-aggregate-pack
+    slice-aggregate-pack-2
+    pack-requires
+    returns-2
+    returns-3)

@@ -1,15 +1,11 @@
 -- `fec::put_sent` meets its contract. Assumes nothing.
 use native.Mathlib.Omega.{arith}
-use mathlib.Core.Path.{sym, ap, _∙_}
-use mathlib.Core.Bool.{false}
-use mathlib.Core.List.{_++_}
-use Prim.Native.Nat.{_+_}
-use lib.ListN.{take, set, length-set}
-use lib.Seq.{getD-set-other}
+use mathlib.Core.Path.{ap}
+use lib.ListN.{length-set}
 use Rattle.fec.specs.declared.Sends.{Sends}
 use Rattle.fec.specs.Code.{sent}
 use Rattle.fec.specs.Search.{count}
-use Rattle.fec.proofs.Written.{stored, stored-two}
+use Rattle.fec.proofs.Written.{put-one, put-both}
 use borrow.Author.Needs.{needs}
 use Rattle.fec.proofs.put_sent.Statement.{statement}
 use Rattle.fec.proofs.put_sent.Tie as tie
@@ -55,14 +51,9 @@ same-length c = search needs
 returns : tie.Need-returns
 returns c =
     let a = c .before .before .args in
-    let out = a .out .now in
-    let told = c .enum-told .given .1 in (
-      omega (arith, ap count told),
-      stored-two out (a .at) (a .g1) (a .g2) (omega (arith, ap count told)) ∙ ap (λ (e : Sends). take (a .at) out ++ sent e (a .g1) (a .g2)) (sym told),
-      (λ k h.
-          getD-set-other (set out (a .at) (a .g1)) (a .at + 1) k (a .g2) false (λ q. omega arith)
-          ∙ getD-set-other out (a .at) k (a .g1) false (λ q. omega arith)),
-    )
+    let told = c .enum-told .given .1 in
+    let put = put-both (a .out .now) (a .at) (a .g1) (a .g2) _ (ap (λ (e : Sends). sent e (a .g1) (a .g2)) told) (omega (arith, ap count told)) in
+    (omega (arith, ap count told), put .0, put .1)
 
 same-length-2 : tie.Need-same-length-2
 same-length-2 c = search needs
@@ -70,12 +61,9 @@ same-length-2 c = search needs
 returns-2 : tie.Need-returns-2
 returns-2 c =
     let a = c .before .before .args in
-    let out = a .out .now in
-    let told = c .enum-told2 .given .1 in (
-      omega (arith, ap count told),
-      stored out (a .at) (a .g1) (omega (arith, ap count told)) ∙ ap (λ (e : Sends). take (a .at) out ++ sent e (a .g1) (a .g2)) (sym told),
-      (λ k h. getD-set-other out (a .at) k (a .g1) false (λ q. omega arith)),
-    )
+    let told = c .enum-told2 .given .1 in
+    let put = put-one (a .out .now) (a .at) (a .g1) _ (ap (λ (e : Sends). sent e (a .g1) (a .g2)) told) (omega (arith, ap count told)) in
+    (omega (arith, ap count told), put .0, put .1)
 
 same-length-3 : tie.Need-same-length-3
 same-length-3 c = search needs
@@ -83,12 +71,9 @@ same-length-3 c = search needs
 returns-3 : tie.Need-returns-3
 returns-3 c =
     let a = c .before .before .args in
-    let out = a .out .now in
-    let told = c .enum-told3 .given .1 in (
-      omega (arith, ap count told),
-      stored out (a .at) (a .g2) (omega (arith, ap count told)) ∙ ap (λ (e : Sends). take (a .at) out ++ sent e (a .g1) (a .g2)) (sym told),
-      (λ k h. getD-set-other out (a .at) k (a .g2) false (λ q. omega arith)),
-    )
+    let told = c .enum-told3 .given .1 in
+    let put = put-one (a .out .now) (a .at) (a .g2) _ (ap (λ (e : Sends). sent e (a .g1) (a .g2)) told) (omega (arith, ap count told)) in
+    (omega (arith, ap count told), put .0, put .1)
 
 pub put-sent-spec : {M : Type 1} → statement M
 put-sent-spec =

@@ -1,5 +1,6 @@
 -- `fec::search` meets its contract: the last row of the table decides. Assumes nothing.
 use native.Mathlib.Omega.{arith}
+use mathlib.Core.Path.{refl}
 use mathlib.Core.List.{[]}
 use Prim.Native.Nat.{_+_}
 use lib.ListN.{getD}
@@ -37,7 +38,7 @@ returns c =
     let a = c .before .before .before .before .before .args in
     let rows = c .before .before .before .forward in
     let low = c .before .first-least in
-    refuses (sends (a .p)) (bitsOf (a .rx .now)) (a .n) (a .limit) (low .result) (getD (rows .result) (a .n + 3) []) (rows .ensures (a .n + 3) (omega arith)) (low .ensures) (c .if1 .taken)
+    (refuses (sends (a .p)) (bitsOf (a .rx .now)) (a .n) (a .limit) (low .result) (getD (rows .result) (a .n + 3) []) (rows .ensures (a .n + 3) (omega arith)) (low .ensures) (c .if1 .taken), refl)
 
 backward-requires : tie.Need-backward-requires
 backward-requires c κs = search needs
@@ -52,8 +53,11 @@ returns-2 c =
     let r = getD (rows .result) (a .n + 3) [] in
     let of-r = rows .ensures (a .n + 3) (omega arith) in
     let within = c .before .before .if1 .left in
-    answers p rx (a .n) (a .limit) (low .result) r of-r (low .ensures) within (omega arith) (c .backward .result)
-    (c .backward .ensures (step-of p rx) (rows .ensures) (below-255 p rx (a .n) (a .limit) (low .result) r of-r (low .ensures) within (omega arith)))
+    let small = below-255 p rx (a .n) (a .limit) (low .result) r of-r (low .ensures) within (omega arith) in
+    let word = c .backward in (
+      answers p rx (a .n) (a .limit) (low .result) r of-r (low .ensures) within (omega arith) (word .result) (word .ensures .0 (step-of p rx) (rows .ensures) small),
+      word .ensures .1,
+    )
 
 pub search-spec : {M : Type 1} → statement M
 search-spec =

@@ -7,8 +7,10 @@ use native.Mathlib.Nat.{add-zero}
 use native.Mathlib.Omega.{arith}
 use lib.Dec.{eqb}
 use lib.ListN.{length, take, drop, getD, List·getD-eq-default, length-take}
-use lib.Seq.{getD-drop}
-use Rattle.bits.specs.Bits.{bit, byteOf}
+use lib.Seq.{getD-drop, getD-take, length-take-le, ext-getD}
+use Rattle.laws.proofs.Values.{Filled}
+use Rattle.bits.specs.Bits.{bit, bitsOf, byteOf}
+use Rattle.bits.proofs.Back.{length-bits}
 use Rattle.fec.specs.declared.Sends.{Sends}
 use Rattle.fec.specs.declared.Sends.the-variants.{Both, First, Second}
 use Rattle.fec.specs.Code.{_⊕_, sent}
@@ -45,6 +47,15 @@ module _ (e : Sends) (a b x y : Bool) where
   costs-second t u eu = omega (arith, costs-as Second t)
 
 -- ---- packing
+
+-- a loop that takes out a bit a turn makes the bits
+pub unpacked : (s : List ℕ) (out : List Bool) (k : ℕ) → length s ≤ 46 → 8 * length s ≤ k → Filled (λ j. getD (bitsOf s) j false) 368 false out k
+    → take (8 * length s) out ≡ bitsOf s
+unpacked s out k h l so =
+    let long : length (take (8 * length s) out) ≡ 8 * length s = length-take-le (8 * length s) out (omega (arith, so .long)) in
+    ext-getD false (take (8 * length s) out) (bitsOf s) (long ∙ sym (length-bits s))
+    (λ j b. getD-take (8 * length s) out j false (omega arith) ∙ so .filled j (omega arith))
+
 pub kept-past : (w : List Bool) (n k : ℕ) → n ≤ k → getD (take n w) k false ≡ false
 kept-past w n k h = List·getD-eq-default (take n w) false {n = k} (omega (arith, length-take n w))
 

@@ -210,6 +210,18 @@ fn bit_at(bytes: &[u8], place: usize) -> bool
     (bytes[place / 8] >> (7 - place % 8)) % 2 == 1
 }
 
+// The bits of bytes, each by itself.
+fn unpack(bytes: &[u8]) -> [bool; 368]
+    requires { ⌜ length (now bytes) ≤ 46 ⌝ }
+    ensures { λ r. ⌜ take (8 * length (now (bytes .entry))) r ≡ bitsOf (now (bytes .entry)) ⌝ }
+{
+    let mut out = [false; 368];
+    for k in 0..8 * bytes.len() {
+        out[k] = bit_at(bytes, k);
+    }
+    out
+}
+
 fn number(b: bool) -> usize
     ensures { λ r. ⌜ (r ≡ bit b) × (r ≤ 1) ⌝ }
 {
@@ -222,33 +234,23 @@ struct Heard {
     pub row: usize,
 }
 
-fn hear(rx: &[u8], at: usize, e: Sends) -> Heard
-    requires { ⌜ (at + count e ≤ 8 * length (now rx)) × (length (now rx) ≤ 46) ⌝ }
-    ensures { λ r. ⌜ (r .at ≡ at + count e) × (r .row ≡ shelf e (getD (bitsOf (now (rx .entry))) at false) (getD (bitsOf (now (rx .entry))) (at + 1) false)) ⌝ }
+fn hear(rx: &[bool], at: usize, e: Sends) -> Heard
+    requires { ⌜ (at + count e ≤ length (now rx)) × (length (now rx) ≤ 368) ⌝ }
+    ensures { λ r. ⌜ (r .at ≡ at + count e) × (r .row ≡ shelf e (getD (now (rx .entry)) at false) (getD (now (rx .entry)) (at + 1) false)) ⌝ }
 {
     match e {
-        Sends::Both => {
-            let x = bit_at(rx, at);
-            let y = bit_at(rx, at + 1);
-            Heard {
-                at: at + 2,
-                row: 2 * number(x) + number(y),
-            }
-        }
-        Sends::First => {
-            let x = bit_at(rx, at);
-            Heard {
-                at: at + 1,
-                row: 4 + number(x),
-            }
-        }
-        Sends::Second => {
-            let x = bit_at(rx, at);
-            Heard {
-                at: at + 1,
-                row: 6 + number(x),
-            }
-        }
+        Sends::Both => Heard {
+            at: at + 2,
+            row: 2 * number(rx[at]) + number(rx[at + 1]),
+        },
+        Sends::First => Heard {
+            at: at + 1,
+            row: 4 + number(rx[at]),
+        },
+        Sends::Second => Heard {
+            at: at + 1,
+            row: 6 + number(rx[at]),
+        },
     }
 }
 
@@ -293,9 +295,9 @@ fn next_row(old: [u8; 32], cost: [u8; 32]) -> [u8; 32]
 }
 
 // The rows of all steps.
-fn forward(rx: &[u8], steps: usize, p: Puncture) -> [[u8; 32]; 244]
-    requires { ⌜ (sofar (sends p) steps ≤ 8 * length (now rx)) × (length (now rx) ≤ 46) × (steps ≤ 244) ⌝ }
-    ensures { λ r. ⌜ Rows («step-of» (sends p) (bitsOf (now (rx .entry)))) r steps ⌝ }
+fn forward(rx: &[bool], steps: usize, p: Puncture) -> [[u8; 32]; 244]
+    requires { ⌜ (sofar (sends p) steps ≤ length (now rx)) × (length (now rx) ≤ 368) × (steps ≤ 244) ⌝ }
+    ensures { λ r. ⌜ Rows («step-of» (sends p) (now (rx .entry))) r steps ⌝ }
 {
     let cost = prices();
     let mut table = [[0u8; 32]; 244];
@@ -366,9 +368,9 @@ struct Reading {
 }
 
 // The nearest word, where its distance is within the limit.
-fn search(rx: &[u8], n: usize, p: Puncture, limit: u8) -> Reading
-    requires { ⌜ (sofar (sends p) (n + 4) ≤ 8 * length (now rx)) × (length (now rx) ≤ 46) × (n ≤ 240) × (limit < 255) ⌝ }
-    ensures { λ r. ⌜ (outcome n (r .found) (r .word) ≡ readOf (sends p) n limit (bitsOf (now (rx .entry)))) × (length (r .word) ≡ 244) ⌝ }
+fn search(rx: &[bool], n: usize, p: Puncture, limit: u8) -> Reading
+    requires { ⌜ (sofar (sends p) (n + 4) ≤ length (now rx)) × (length (now rx) ≤ 368) × (n ≤ 240) × (limit < 255) ⌝ }
+    ensures { λ r. ⌜ (outcome n (r .found) (r .word) ≡ readOf (sends p) n limit (now (rx .entry))) × (length (r .word) ≡ 244) ⌝ }
 {
     let table = forward(rx, n + 4, p);
     let row = table[n + 3];
@@ -446,7 +448,9 @@ pub fn decode(kind: Kind, received: &[u8]) -> Decoded
     }
     let n = plan.bits;
     let p = plan.puncture;
-    let r = search(received, n, p, plan.limit);
+    let bits = unpack(received);
+    let m = 8 * received.len();
+    let r = search(&bits[..m], n, p, plan.limit);
     if r.found {
         let w = r.word;
         let mut bytes = [0u8; 30];

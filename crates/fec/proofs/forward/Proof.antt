@@ -4,8 +4,6 @@ use mathlib.Core.Path.{refl, ap}
 use mathlib.Core.Bool.{false}
 use Prim.Native.Nat.{_+_, _-_, _≤_}
 use lib.ListN.{getD}
-use Rattle.bits.specs.Bits.{bitsOf}
-use Rattle.bits.proofs.Back.{length-bits}
 use Rattle.fec.specs.Code.{sends}
 use Rattle.fec.specs.Search.{count}
 use Rattle.fec.proofs.Codes.{sofar-fits}
@@ -15,7 +13,7 @@ use Rattle.fec.proofs.forward.Statement.{statement}
 use Rattle.fec.proofs.forward.Tie as tie
 
 abbrev Inv-loop : tie.InvT-loop
-Inv-loop rx steps p cost table₀ row₀ at₀ step₀ table row at step = (step ≤ steps) × Walking (sends p) (bitsOf rx) table row at step
+Inv-loop rx steps p cost table₀ row₀ at₀ step₀ table row at step = (step ≤ steps) × Walking (sends p) rx table row at step
 
 abbrev μ-loop : tie.MeasureT-loop
 μ-loop rx steps p cost table₀ row₀ at₀ step₀ table row at step = steps - step
@@ -29,7 +27,7 @@ array-write-row c = search needs
 loop-holds : tie.Need-loop-holds Inv-loop μ-loop
 loop-holds c =
     let a = c .before .before .args in
-    (omega arith, walking-start (sends (a .p)) (bitsOf (a .rx .now)) _ refl)
+    (omega arith, walking-start (sends (a .p)) (a .rx .now) _ refl)
 
 sent-at-requires : tie.Need-sent-at-requires Inv-loop μ-loop
 sent-at-requires c κs = search needs
@@ -43,13 +41,13 @@ hear-requires c κs =
 mul-d : tie.Need-mul-d Inv-loop μ-loop
 mul-d c =
     let at = c .before .before .before .loop .at in
-    let rx = bitsOf (c .before .before .before .before .before .before .args .rx .now) in
+    let rx = c .before .before .before .before .before .before .args .rx .now in
     omega (arith, c .hear .ensures .1, shelf-lt (c .before .sent-at .result) (getD rx at false) (getD rx (at + 1) false))
 
 array-copy-out-d : tie.Need-array-copy-out-d Inv-loop μ-loop
 array-copy-out-d c =
     let at = c .before .before .before .loop .at in
-    let rx = bitsOf (c .before .before .before .before .before .before .args .rx .now) in
+    let rx = c .before .before .before .before .before .before .args .rx .now in
     omega (arith, c .hear .ensures .1, shelf-lt (c .before .sent-at .result) (getD rx at false) (getD rx (at + 1) false))
 
 next-row-requires : tie.Need-next-row-requires Inv-loop μ-loop
@@ -76,8 +74,8 @@ loop-again c =
     let sent = c .before .before .before .sent-at in
     let heard = c .before .before .hear in (
       omega arith,
-      walking-step (sends (a .p)) (bitsOf (a .rx .now)) (l .table) (l .row) (l .at) (l .step) (l .inv .1) (sent .result) (sent .ensures) (omega arith)
-          (omega (arith, sofar-fits (sends (a .p)) (a .steps) (l .step) (omega arith), l .inv .1 .place, ap count (sent .ensures), length-bits (a .rx .now)))
+      walking-step (sends (a .p)) (a .rx .now) (l .table) (l .row) (l .at) (l .step) (l .inv .1) (sent .result) (sent .ensures) (omega arith)
+          (omega (arith, sofar-fits (sends (a .p)) (a .steps) (l .step) (omega arith), l .inv .1 .place, ap count (sent .ensures)))
           (prices .result) (prices .ensures) (heard .result .at) (heard .result .row) (heard .ensures .0) (heard .ensures .1) (c .next-row .result) (c .next-row .ensures),
     )
 

@@ -4,7 +4,6 @@ use mathlib.Core.Path.{refl}
 use mathlib.Core.List.{[]}
 use Prim.Native.Nat.{_+_}
 use lib.ListN.{getD}
-use Rattle.bits.specs.Bits.{bitsOf}
 use Rattle.fec.specs.Code.{sends}
 use Rattle.fec.specs.Search.{step as step-of}
 use Rattle.fec.proofs.Steps.{refuses, below-255, answers}
@@ -38,7 +37,7 @@ returns c =
     let a = c .before .before .before .before .before .args in
     let rows = c .before .before .before .forward in
     let low = c .before .first-least in
-    (refuses (sends (a .p)) (bitsOf (a .rx .now)) (a .n) (a .limit) (low .result) (getD (rows .result) (a .n + 3) []) (rows .ensures (a .n + 3) (omega arith)) (low .ensures) (c .if1 .taken), refl)
+    (refuses (sends (a .p)) (a .rx .now) (a .n) (a .limit) (low .result) (getD (rows .result) (a .n + 3) []) (rows .ensures (a .n + 3) (omega arith)) (low .ensures) (c .if1 .taken), refl)
 
 backward-requires : tie.Need-backward-requires
 backward-requires c κs = search needs
@@ -49,7 +48,7 @@ returns-2 c =
     let rows = c .before .before .before .before .before .forward in
     let low = c .before .before .before .first-least in
     let p = sends (a .p) in
-    let rx = bitsOf (a .rx .now) in
+    let rx = a .rx .now in
     let r = getD (rows .result) (a .n + 3) [] in
     let of-r = rows .ensures (a .n + 3) (omega arith) in
     let within = c .before .before .if1 .left in

@@ -1,6 +1,6 @@
 -- The distance of a word is the cost of its steps, so what the last row of the table decides is what reading finds. Assumes nothing.
 use mathlib.Core.Path.{_≡_, refl, sym, ap, _∙_, subst}
-use mathlib.Core.Bool.{Bool, true, false}
+use mathlib.Core.Bool.{Bool, false}
 use mathlib.Core.List.{List, [], _∷_, _++_, reverse, reverseAux, reverse-reverse}
 use mathlib.Core.Option.{Option, some, none}
 use Prim.Native.Nat.{ℕ, suc, _+_, _*_, _/_, _≤_, _<_, min}
@@ -13,7 +13,7 @@ use Rattle.bits.specs.Bits.{bit, odd}
 use Rattle.bits.proofs.Back.{bit-lt, odd-bit}
 use Rattle.fec.specs.declared.Sends.{Sends}
 use Rattle.fec.specs.Code.{_⊕_, sent, coded, code}
-use Rattle.fec.specs.Nearest.{differ, distance, comes, Nearest, nearest, readOf}
+use Rattle.fec.specs.Nearest.{differ, distance, comes, nearest, readOf}
 use Rattle.fec.specs.Search.{st, ix, cost, row, trace, out1, out2, sofar, Lowest, step as step-of}
 use Rattle.fec.proofs.Unique.{nearest-is, only-nearest}
 use Rattle.fec.proofs.Codes.{length-sent}

@@ -1,6 +1,6 @@
 -- The search finds the right word, whatever a step costs: no word costs less than the rows say, and the word traced back costs that much
 -- and comes first of those that do. Assumes nothing.
-use mathlib.Core.Path.{_≡_, refl, sym, ap, ap₂, _∙_, subst}
+use mathlib.Core.Path.{_≡_, refl, sym, ap, _∙_, subst}
 use mathlib.Core.Logic.{_⊎_, inl, inr, ⊎-elim}
 use mathlib.Core.Bool.{Bool, true, false, cond}
 use mathlib.Core.List.{List, [], _∷_}
@@ -10,7 +10,6 @@ use native.Mathlib.Decide.{decLt}
 use lib.ListN.{length}
 use lib.Dec.{T, ltb}
 use borrow.Author.Tests.{ltb-true, ltb-false}
-use Rattle.bits.specs.Bits.{bit}
 use Rattle.bits.proofs.Back.{bit-lt}
 use Rattle.fec.specs.Nearest.{comes}
 use Rattle.fec.specs.Search.{st, ix, input, start, cost as cost-of, to as to-of, row as row-of, choose as choose-of, back as back-of, trace as trace-of}

@@ -1,13 +1,13 @@
 // The convolutional code, its three puncturings, and the reading of the nearest word.
 ghost use mathlib.Core.Path.{_≡_};
-ghost use mathlib.Core.Bool.{Bool, true, false, cond};
+ghost use mathlib.Core.Bool.{Bool, true, false};
 ghost use mathlib.Core.List.{[], _∷_, _++_};
 ghost use Prim.Native.Nat.{ℕ, _+_, _*_, _≤_, _<_, min};
 ghost use lib.ListN.{length, getD, take, drop};
 ghost use Rattle.bits.specs.Bits.{bit, bitsOf, byteOf, bytesOf};
 ghost use Rattle.fec.specs.Code.{_⊕_, sends, sent, code, flushed};
 ghost use Rattle.fec.specs.Nearest.{differ, readOf};
-ghost use Rattle.fec.specs.Kinds.{planOf, encodedOf, decodedOf, encoded, notEncoded, decoded, notDecoded};
+ghost use Rattle.fec.specs.Kinds.{planOf, encodedOf, decodedOf};
 ghost use Rattle.fec.specs.Search.{Outputs, count, sofar, step as «step-of», price as «price-of», shelf, grown, Rows, Lowest, source, Traced, outcome};
 use refusal::Refusal;
 use refusal::Verdict;

@@ -1,7 +1,7 @@
 -- Small cases: for n of 1 to 3 and each puncturing, what reading finds for many received words, computed from the definition over all
 -- words. Each number is 16 times the distance of the nearest word, and the number that the answer's n bits spell. The received words start
 -- at 0 and go up by `by`, cut to their length. `docs/small-nearest.txt` has the same answers as text, in the same order. Assumes nothing.
-use mathlib.Core.Bool.{Bool, true, false}
+use mathlib.Core.Bool.{Bool, true}
 use mathlib.Core.List.{List, [], _∷_}
 use Prim.Native.Nat.{ℕ, zero, suc, _+_, _*_, _/_, _%_, _^_}
 use lib.Dec.{T, eqb}

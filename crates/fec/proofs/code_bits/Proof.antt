@@ -1,11 +1,11 @@
 -- `fec::code_bits` meets its contract: what is written so far, and then the coded bits of what is left, are those of the whole. Assumes
 -- nothing.
 use native.Mathlib.Omega.{arith}
-use mathlib.Core.Path.{ap, ap₂, sym, _∙_}
+use mathlib.Core.Path.{ap, _∙_}
 use mathlib.Core.Bool.{Bool}
 use mathlib.Core.List.{List}
-use Prim.Native.Nat.{ℕ, _+_, _-_, _<_}
-use lib.ListN.{length, take}
+use Prim.Native.Nat.{ℕ, _+_, _-_}
+use lib.ListN.{take}
 use Rattle.bits.specs.Bits.{bitsOf}
 use Rattle.bits.proofs.Back.{length-bits}
 use Rattle.fec.specs.Code.{_⊕_, sends, flushed}

@@ -46,7 +46,7 @@ search-requires c κs =
     let pl = c .before .before .before .before .plan-of in
     let f = plan-fits (a .kind) (pl .result) (pl .ensures) (a .received .now) in
     let long = ap length (c .before .unpack .ensures) ∙ length-bits (a .received .now) in
-    (omega (arith, f .full, c .before .before .if1 .left, long), omega (arith, f .short, c .before .before .if1 .left, long), f .few, f .low)
+    (omega (arith, f .full, c .before .before .if1 .left, long), omega (arith, f .short, c .before .before .if1 .left, long), f .few, omega (arith, f .low))
 
 slice-aggregate-pack : tie.Need-slice-aggregate-pack
 slice-aggregate-pack c = search needs

@@ -8,7 +8,6 @@ use lib.ListN.{getD}
 use Rattle.laws.proofs.Every.{every, every-at}
 use Rattle.bits.specs.Bits.{bit}
 use Rattle.fec.specs.Search.{out1, out2, Outputs}
-use borrow.Author.Needs.{needs}
 use Rattle.fec.proofs.outputs.Statement.{statement}
 use Rattle.fec.proofs.outputs.Tie as tie
 

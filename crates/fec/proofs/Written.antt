@@ -12,7 +12,7 @@ use lib.Seq.{drop-cons, take-suc-set, length-take-le, getD-take, getD-set-other}
 use Rattle.laws.proofs.Padded.{replicate-at, padded-at}
 use Rattle.fec.specs.declared.Sends.{Sends}
 use Rattle.fec.specs.Code.{_⊕_, sent, coded, code, flushed}
-use Rattle.fec.specs.Search.{count, sofar}
+use Rattle.fec.specs.Search.{count, sofar, Stored}
 use Rattle.fec.proofs.Codes.{length-code, sofar-suc}
 use Rattle.fec.proofs.Packed.{kept-past}
 
@@ -40,19 +40,22 @@ stored-two out at g k h =
     ∙ stored (set out at g) (at + 1) k (omega (arith, length-set out at g))
     ∙ ap (λ (l : List Bool). l ++ (k ∷ [])) (stored out at g (omega arith)) ∙ append-assoc (take at out) (g ∷ []) (k ∷ [])
 
--- where one bit is sent it is stored, and nothing after it changes
-pub put-one : (out : List Bool) (at : ℕ) (g : Bool) (l : List Bool) → l ≡ g ∷ [] → at < length out
-    → (take (at + 1) (set out at g) ≡ take at out ++ l) × ((k : ℕ) → at + 1 ≤ k → getD (set out at g) k false ≡ getD out k false)
-put-one out at g l e h = (stored out at g h ∙ ap (λ (l : List Bool). take at out ++ l) (sym e), λ k q. getD-set-other out at k g false (λ r. omega arith))
+-- where one bit is sent it is stored
+pub put-one : (out : List Bool) (at : ℕ) (g : Bool) (l : List Bool) → l ≡ g ∷ [] → at < length out → Stored out (set out at g) at (at + 1) l
+put-one out at g l e h =
+    record {
+      front = stored out at g h ∙ ap (λ (l : List Bool). take at out ++ l) (sym e);
+      rest = λ k q. getD-set-other out at k g false (λ r. omega arith);
+    }
 
 -- where both are, so are both
 pub put-both : (out : List Bool) (at : ℕ) (g g′ : Bool) (l : List Bool) → l ≡ g ∷ g′ ∷ [] → at + 1 < length out
-    → (take (at + 2) (set (set out at g) (at + 1) g′) ≡ take at out ++ l)
-    × ((k : ℕ) → at + 2 ≤ k → getD (set (set out at g) (at + 1) g′) k false ≡ getD out k false)
-put-both out at g g′ l e h = (
-  stored-two out at g g′ h ∙ ap (λ (l : List Bool). take at out ++ l) (sym e),
-  λ k q. getD-set-other (set out at g) (at + 1) k g′ false (λ r. omega arith) ∙ getD-set-other out at k g false (λ r. omega arith),
-)
+    → Stored out (set (set out at g) (at + 1) g′) at (at + 2) l
+put-both out at g g′ l e h =
+    record {
+      front = stored-two out at g g′ h ∙ ap (λ (l : List Bool). take at out ++ l) (sym e);
+      rest = λ k q. getD-set-other (set out at g) (at + 1) k g′ false (λ r. omega arith) ∙ getD-set-other out at k g false (λ r. omega arith);
+    }
 
 -- ---- the loop
 pub record Encoding (p : ℕ → Sends) (word out : List Bool) (at : ℕ) (b₁ b₂ b₃ b₄ : Bool) (t : ℕ) : Type 0 where
@@ -69,15 +72,15 @@ module _ (p : ℕ → Sends) (word : List Bool) where
 
   module _ (out : List Bool) (at : ℕ) (b₁ b₂ b₃ b₄ : Bool) (t : ℕ) (so : Encoding p word out at b₁ b₂ b₃ b₄ t) where
     pub encoding-step : t < length word → (e : Sends) → e ≡ p t → (b g₁ g₂ : Bool) → b ≡ getD word t false → g₁ ≡ b ⊕ b₃ ⊕ b₄ → g₂ ≡ b ⊕ b₁ ⊕ b₂ ⊕ b₄
-        → (out′ : List Bool) (at′ : ℕ) → length out′ ≡ length out → at′ ≡ at + count e → take at′ out′ ≡ take at out ++ sent e g₁ g₂
-        → ((k : ℕ) → at′ ≤ k → getD out′ k false ≡ getD out k false) → Encoding p word out′ at′ b b₁ b₂ b₃ (t + 1)
-    encoding-step h e of-e b g₁ g₂ of-b of-g₁ of-g₂ out′ at′ l a w rest =
+        → (out′ : List Bool) (at′ : ℕ) → length out′ ≡ length out → at′ ≡ at + count e → Stored out out′ at at′ (sent e g₁ g₂)
+        → Encoding p word out′ at′ b b₁ b₂ b₃ (t + 1)
+    encoding-step h e of-e b g₁ g₂ of-b of-g₁ of-g₂ out′ at′ l a put =
         record {
           within = omega arith;
           place = omega (arith, a, so .place, ap count of-e, sofar-suc p t);
           long = l ∙ so .long;
           written = rw (add-one t) moved;
-          clear = λ k q. rest k q ∙ so .clear k (omega (arith, a));
+          clear = λ k q. put .rest k q ∙ so .clear k (omega (arith, a));
         }
       where
         left : List Bool
@@ -90,7 +93,7 @@ module _ (p : ℕ → Sends) (word : List Bool) where
 
         moved : take at′ out′ ++ left ≡ code p word
         moved =
-            ap (λ (x : List Bool). x ++ left) w ∙ append-assoc (take at out) (sent e g₁ g₂) left ∙ ap (λ (x : List Bool). take at out ++ x) one-more
+            ap (λ (x : List Bool). x ++ left) (put .front) ∙ append-assoc (take at out) (sent e g₁ g₂) left ∙ ap (λ (x : List Bool). take at out ++ x) one-more
             ∙ so .written
 
     pub encoding-end : length word ≤ t → (k : ℕ) → getD out k false ≡ getD (code p word) k false

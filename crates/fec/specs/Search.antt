@@ -1,8 +1,8 @@
 -- What the private functions of the search compute, step by step. A reader of the promises needs none of it: the public contracts cite
 -- `Kinds` alone, and the proofs show that the search finds what `Nearest` says. Assumes nothing.
 use mathlib.Core.Path.{_≡_}
-use mathlib.Core.Bool.{Bool, cond}
-use mathlib.Core.List.{List, [], _∷_, reverse}
+use mathlib.Core.Bool.{Bool, false, cond}
+use mathlib.Core.List.{List, [], _∷_, _++_, reverse}
 use mathlib.Core.Option.{Option, some, none}
 use Prim.Native.Nat.{ℕ, zero, suc, _+_, _*_, _/_, _%_, _≤_, _<_, min}
 use lib.Dec.{ltb}
@@ -123,6 +123,11 @@ abbrev pub shelf : Sends → Bool → Bool → ℕ
 shelf Both x y = 2 * bit x + bit y
 shelf First x y = 4 + bit x
 shelf Second x y = 6 + bit x
+
+-- l is stored in new from at to next, what stood before it is kept, and so is what stood after
+pub record Stored (old new : List Bool) (at next : ℕ) (l : List Bool) : Type 0 where
+  pub front : take next new ≡ take at old ++ l
+  pub rest : (k : ℕ) → next ≤ k → getD new k false ≡ getD old k false
 
 -- what an answer of the search says was found
 abbrev pub outcome : ℕ → Bool → List Bool → Option (List Bool)

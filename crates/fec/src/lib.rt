@@ -1,14 +1,14 @@
 // The convolutional code, its three puncturings, and the reading of the nearest word.
 ghost use mathlib.Core.Path.{_≡_};
 ghost use mathlib.Core.Bool.{Bool, true, false};
-ghost use mathlib.Core.List.{[], _∷_, _++_};
+ghost use mathlib.Core.List.{[], _∷_};
 ghost use Prim.Native.Nat.{ℕ, _+_, _*_, _≤_, _<_, min};
 ghost use lib.ListN.{length, getD, take, drop};
 ghost use Rattle.bits.specs.Bits.{bit, bitsOf, byteOf, bytesOf};
 ghost use Rattle.fec.specs.Code.{_⊕_, sends, sent, code, flushed};
 ghost use Rattle.fec.specs.Nearest.{differ, readOf};
 ghost use Rattle.fec.specs.Kinds.{planOf, encodedOf, decodedOf};
-ghost use Rattle.fec.specs.Search.{Outputs, count, sofar, step as «step-of», price as «price-of», shelf, grown, Rows, Lowest, source, Traced, outcome};
+ghost use Rattle.fec.specs.Search.{Outputs, count, sofar, step as «step-of», price as «price-of», shelf, grown, Rows, Lowest, source, Traced, Stored, outcome};
 use refusal::Refusal;
 use refusal::Verdict;
 
@@ -484,7 +484,7 @@ fn sum(a: bool, b: bool) -> bool
 // What a step sends is stored from `at` on. Returns the next place.
 fn put_sent(out: &mut [bool], at: usize, e: Sends, g1: bool, g2: bool) -> usize
     requires { ⌜ at + count e ≤ length (now out) ⌝ }
-    ensures { λ r. ⌜ (r ≡ at + count e) × (take r (now (out .exit)) ≡ take at (now (out .entry)) ++ sent e g1 g2) × ((k : ℕ) → r ≤ k → getD (now (out .exit)) k false ≡ getD (now (out .entry)) k false) ⌝ }
+    ensures { λ r. ⌜ (r ≡ at + count e) × Stored (now (out .entry)) (now (out .exit)) at r (sent e g1 g2) ⌝ }
 {
     match e {
         Sends::Both => {

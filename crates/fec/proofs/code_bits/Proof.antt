@@ -9,6 +9,7 @@ use lib.ListN.{take}
 use Rattle.bits.specs.Bits.{bitsOf}
 use Rattle.bits.proofs.Back.{length-bits}
 use Rattle.fec.specs.Code.{_⊕_, sends, flushed}
+use Rattle.fec.specs.Search.{count}
 use Rattle.fec.proofs.Codes.{sofar-fits}
 use Rattle.fec.proofs.Written.{Encoding, length-flushed, encoding-start, encoding-step, encoding-end}
 use borrow.Author.Needs.{needs}
@@ -59,7 +60,7 @@ put-sent-requires c κs =
     let l = c .before .before .before .before .before .before .before .before .before .loop in
     let start = c .before .before .before .before .before .before .before .before .before .before .before in
     let n = start .args .n in
-    omega (arith, sofar-fits (sends (start .args .p)) (n + 4) (l .t) (omega arith), l .inv .place, l .inv .long, ap Rattle.fec.specs.Search.count (c .sent-at .ensures))
+    omega (arith, sofar-fits (sends (start .args .p)) (n + 4) (l .t) (omega arith), l .inv .place, l .inv .long, ap count (c .sent-at .ensures))
 
 add-t : tie.Need-add-t Inv-loop μ-loop
 add-t c = search needs
@@ -75,11 +76,15 @@ loop-again c =
     let put = c .before .put-sent in
     let b = c .before .before .before .before .before .before .before .before .before .input-at in
     let long = length-flushed (a .n) (bitsOf (a .plain .now)) (omega (arith, length-bits (a .plain .now))) in
+    let g1 = c .before .before .before .before .before .before .before .sum2 in
+    let g2 = c .before .before .before .before .sum5 in
+    let sent = c .before .before .sent-at in
     encoding-step (sends (a .p)) (word (a .plain .now) (a .n)) (l .out) (l .at) (l .b1) (l .b2) (l .b3) (l .b4) (l .t) (l .inv) (omega (arith, long))
-    (c .before .before .sent-at .result) (c .before .before .sent-at .ensures) (b .result) (c .before .before .before .before .before .before .before .sum2 .result) (c .before .before .before .before .sum5 .result) (b .ensures)
-    (c .before .before .before .before .before .before .before .sum2 .ensures ∙ ap (λ (x : Bool). x ⊕ l .b4) (c .before .before .before .before .before .before .before .before .sum .ensures))
-    (c .before .before .before .before .sum5 .ensures ∙ ap (λ (x : Bool). x ⊕ l .b4) (c .before .before .before .before .before .sum4 .ensures ∙ ap (λ (x : Bool). x ⊕ l .b2) (c .before .before .before .before .before .before .sum3 .ensures)))
-    (put .last .0) (put .result) (put .kept .0) (put .ensures .0) (put .ensures .1) (put .ensures .2)
+    (sent .result) (sent .ensures) (b .result) (g1 .result) (g2 .result) (b .ensures)
+    (g1 .ensures ∙ ap (λ (x : Bool). x ⊕ l .b4) (c .before .before .before .before .before .before .before .before .sum .ensures))
+    (g2 .ensures
+    ∙ ap (λ (x : Bool). x ⊕ l .b4) (c .before .before .before .before .before .sum4 .ensures ∙ ap (λ (x : Bool). x ⊕ l .b2) (c .before .before .before .before .before .before .sum3 .ensures)))
+    (put .last .0) (put .result) (put .kept .0) (put .ensures .0) (put .ensures .1)
 
 returns : tie.Need-returns Inv-loop μ-loop
 returns c =

@@ -67,7 +67,9 @@ returns-2 c =
     let r = c .before .before .before .before .before .before .search in
     let heard = c .before .before .before .before .before .before .before .before .unpack .ensures in
     let packed = c .before .pack in
-    reads-word (a .kind) (pl .result) (pl .ensures) (a .received .now) (c .before .before .before .before .before .before .before .before .before .if1 .left) (r .result .found) (r .result .word) (r .ensures .0 ∙ ap (readOf (sends (pl .result .puncture)) (pl .result .bits) (pl .result .limit)) heard) (c .before .before .before .before .before .if2 .taken) (packed .last .1 .1 .0) (packed .ensures)
+    reads-word (a .kind) (pl .result) (pl .ensures) (a .received .now)
+    (c .before .before .before .before .before .before .before .before .before .if1 .left) (r .result .found) (r .result .word)
+    (r .ensures .0 ∙ ap (readOf (sends (pl .result .puncture)) (pl .result .bits) (pl .result .limit)) heard) (c .before .before .before .before .before .if2 .taken) (packed .last .1 .1 .0) (packed .ensures)
 
 returns-3 : tie.Need-returns-3
 returns-3 c =
@@ -75,7 +77,9 @@ returns-3 c =
     let pl = c .before .before .before .before .before .before .plan-of in
     let r = c .before .search in
     let heard = c .before .before .before .unpack .ensures in
-    reads-far (a .kind) (pl .result) (pl .ensures) (a .received .now) (c .before .before .before .before .if1 .left) (r .result .found) (r .result .word) (r .ensures .0 ∙ ap (readOf (sends (pl .result .puncture)) (pl .result .bits) (pl .result .limit)) heard) (c .if2 .left)
+    reads-far (a .kind) (pl .result) (pl .ensures) (a .received .now)
+    (c .before .before .before .before .if1 .left) (r .result .found) (r .result .word)
+    (r .ensures .0 ∙ ap (readOf (sends (pl .result .puncture)) (pl .result .bits) (pl .result .limit)) heard) (c .if2 .left)
 
 pub decode-spec : {M : Type 1} → statement M
 decode-spec =

@@ -7,16 +7,13 @@ use native.Mathlib.Nat.{zero-div}
 use native.Mathlib.Omega.{arith}
 use lib.Dec.{eqb, eqb→eq}
 use lib.ListN.{length, getD, take, drop, replicate, length-append, length-replicate}
-use lib.Seq.{drop-drop, ext-getD, getD-drop, getD-take}
+use lib.Seq.{drop-drop, ext-getD, getD-drop}
 use Rattle.laws.specs.Tabled.{tabled}
+use Rattle.laws.specs.Value.{Bytes}
 use Rattle.laws.proofs.Every.{every-at}
 use Rattle.laws.proofs.Values.{tabled-only}
 use Rattle.laws.proofs.Padded.{padded-at}
 use Rattle.bits.specs.Bits.{odd, bit, eight, bitsOf, byteOf, bytesOf}
-
--- each is a byte
-abbrev pub Bytes : List ℕ → Type 0
-Bytes s = (k : ℕ) → getD s k 0 < 256
 
 -- ---- a bit as a number
 

@@ -1,23 +1,28 @@
 -- A bit that is set: what the bytes are then, that it reads as set, and that every other place is kept. Assumes nothing.
 use mathlib.Core.Path.{_≡_, refl, sym, ap, ap₂, _∙_}
 use mathlib.Core.Bool.{Bool, true, false, not, cond}
-use mathlib.Core.List.{List, [], _∷_, _++_}
-use Prim.Native.Nat.{ℕ, zero, suc, _+_, _-_, _*_, _/_, _%_, _^_, _<_, _≤_}
+use mathlib.Core.List.{List, [], _∷_}
+use Prim.Native.Nat.{ℕ, zero, suc, _-_, _*_, _/_, _%_, _^_, _<_, _≤_}
 use native.Mathlib.Omega.{arith}
 use lib.Dec.{eqb, eqb→eq, ltb}
 use lib.Bits.{bitAnd, bitOr}
 use lib.ListN.{length, getD, set, length-set}
 use lib.Seq.{set-out, getD-set-same, getD-set-other}
 use borrow.Author.Tests.{ne-eqb, lt-ltb}
+use Rattle.laws.specs.Value.{Bytes}
 use Rattle.laws.proofs.Every.{every, every-at}
 use Rattle.bits.specs.Bits.{bit, eight, bitsOf, byteOf, bytesOf}
 use Rattle.bits.specs.Places.{within, getOf, flag, withBit}
 use Rattle.refusal.specs.declared.Refusal.the-variants.{OutOfRange}
 use Rattle.bits.specs.declared.Bit.the-variants.{Value, Refused}
-use Rattle.bits.proofs.Back.{Bytes, length-bits, length-bytes, byte-eight, bytes-bits, bits-bytes, next-byte, next-bit}
+use Rattle.bits.proofs.Back.{length-bits, length-bytes, byte-eight, bytes-bits, bits-bytes, next-byte, next-bit}
 
 pub flag-one : (v : ℕ) → (v ≡ 0 → ⊥) → flag v ≡ true
 flag-one v h = ap not (ne-eqb v 0 h)
+
+pub flag-bit : (b : Bool) → flag (bit b) ≡ b
+flag-bit true = refl
+flag-bit false = refl
 
 -- ---- the byte that holds the bit
 

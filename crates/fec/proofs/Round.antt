@@ -7,9 +7,10 @@ use native.Mathlib.Decide.{decLt}
 use native.Mathlib.Omega.{arith}
 use lib.ListN.{length, take, getD, replicate, length-append, length-replicate}
 use lib.Seq.{length-take-le, take-at, getD-take}
+use Rattle.laws.specs.Value.{Bytes}
 use Rattle.laws.proofs.Padded.{padded-at}
 use Rattle.bits.specs.Bits.{bitsOf, bytesOf}
-use Rattle.bits.proofs.Back.{Bytes, length-bits, length-bytes, bits-bytes, bytes-bits, bytes-alike, take-bytes, padded-bit, bits-bytes-padded}
+use Rattle.bits.proofs.Back.{length-bits, length-bytes, bits-bytes, bytes-bits, bytes-alike, take-bytes, padded-bit, bits-bytes-padded}
 use Rattle.fec.specs.declared.Kind.{Kind}
 use Rattle.fec.specs.declared.Kind.the-variants.{Header, Stream, Packet}
 use Rattle.fec.specs.declared.Coded.{Coded}

@@ -3,4 +3,5 @@ pub mod Values
 pub mod InPlace
 pub mod Xor
 pub mod Divide
+pub mod Number
 pub mod Padded

@@ -1,0 +1,92 @@
+//! compare [--seed N] [--count N] [--full] [NAME...]: runs each comparison, or those whose name begins so.
+use runner::comparison::{Comparison, Wanted};
+use runner::random::Random;
+use runner::{leaves, observe, outside, words};
+use std::process::ExitCode;
+
+struct Asked {
+    seed: u64,
+    wanted: Wanted,
+    names: Vec<String>,
+}
+
+fn asked() -> Result<Asked, String> {
+    let mut asked = Asked { seed: 1, wanted: Wanted::default(), names: Vec::new() };
+    let mut words = std::env::args().skip(1);
+    while let Some(word) = words.next() {
+        let mut number = || {
+            let given = words.next().ok_or(format!("{word} calls for a number"))?;
+            given.parse::<u64>().map_err(|_| format!("{word} calls for a number, and {given} is none"))
+        };
+        match word.as_str() {
+            "--seed" => asked.seed = number()?,
+            "--count" => asked.wanted.count = Some(number()? as usize),
+            "--full" => asked.wanted.full = true,
+            _ if word.starts_with('-') => return Err(format!("{word} is not known")),
+            _ => asked.names.push(word),
+        }
+    }
+    Ok(asked)
+}
+
+fn comparisons() -> Vec<Comparison> {
+    let parts = [
+        Vec::from(leaves::ALL),
+        #[cfg(feature = "address")]
+        Vec::from(runner::address::ALL),
+        Vec::from(words::ALL),
+        #[cfg(feature = "fec")]
+        Vec::from(runner::fec::ALL),
+    ];
+    parts.into_iter().flatten().collect()
+}
+
+fn main() -> ExitCode {
+    let Asked { seed, wanted, names } = match asked() {
+        Ok(asked) => asked,
+        Err(why) => {
+            eprintln!("compare: {why}\ncompare [--seed N] [--count N] [--full] [NAME...]");
+            return ExitCode::from(2);
+        }
+    };
+    observe::start();
+    let chosen = |name: &str| names.is_empty() || names.iter().any(|given| name.starts_with(given.as_str()));
+    let mut ran = 0;
+    println!("seed {seed}");
+    println!("{:18} {:>9} {:>9} {:>9} {:>7} {:>11}", "name", "inputs", "answered", "refused", "ties", "differences");
+    for comparison in comparisons().iter().filter(|comparison| chosen(comparison.name)) {
+        ran += 1;
+        let (tally, difference) = comparison.run(&mut Random::new(seed), &wanted);
+        let ties = if comparison.counts_ties { tally.ties.to_string() } else { "-".into() };
+        println!(
+            "{:18} {:>9} {:>9} {:>9} {ties:>7} {:>11}",
+            comparison.name,
+            tally.inputs,
+            tally.answered,
+            tally.refused,
+            difference.is_some() as u8
+        );
+        if let Some(difference) = difference {
+            println!("\nThe smallest input found on which {} differs ({}):", comparison.name, comparison.layout);
+            println!("  {}", observe::hex(&difference.input));
+            println!("  the Rust: {}\n  ours:     {}", difference.rust, difference.ours);
+            return ExitCode::FAILURE;
+        }
+    }
+    if chosen("outside") {
+        ran += 1;
+        println!("\n{:38} {:54} ours", "outside the shared domain", "the Rust");
+        for outside in outside::all() {
+            println!("{:38} {:54} {}", outside.input, outside.rust, outside.ours);
+            if outside.written != [outside.rust, outside.ours] {
+                println!("\nWritten down is: the Rust {}; ours {}", outside.written[0], outside.written[1]);
+                return ExitCode::FAILURE;
+            }
+        }
+    }
+    if ran == 0 {
+        eprintln!("compare: no comparison is named so");
+        return ExitCode::from(2);
+    }
+    ExitCode::SUCCESS
+}

@@ -1,0 +1,283 @@
+//! The comparisons of bits, crc, random, interleave and golay.
+use crate::comparison::{same, Comparison, Said, Stop, Take, Wanted};
+use crate::observe::{answer, hex};
+use crate::random::Random;
+use cai_golay::extended as golay;
+use ours::{refused, Refused};
+
+pub const ALL: [Comparison; 8] = [
+    Comparison {
+        name: "get_bit",
+        layout: "the place in eight bytes, highest first, and then the bytes",
+        shortest: Some(8),
+        counts_ties: false,
+        inputs: places_to_get,
+        check: get_bit,
+    },
+    Comparison {
+        name: "set_bit",
+        layout: "the place in eight bytes, highest first, the value, and then the bytes",
+        shortest: Some(9),
+        counts_ties: false,
+        inputs: places_to_set,
+        check: set_bit,
+    },
+    Comparison {
+        name: "crc",
+        layout: "the bytes",
+        shortest: Some(0),
+        counts_ties: false,
+        inputs: messages,
+        check: crc,
+    },
+    Comparison {
+        name: "crc_update",
+        layout: "the bytes; each of seven places is tried as the place where they are parted",
+        shortest: Some(0),
+        counts_ties: false,
+        inputs: messages,
+        check: crc_update,
+    },
+    Comparison {
+        name: "random_xor",
+        layout: "the bytes",
+        shortest: Some(0),
+        counts_ties: false,
+        inputs: strings_to_xor,
+        check: random_xor,
+    },
+    Comparison {
+        name: "interleave",
+        layout: "the payload",
+        shortest: Some(0),
+        counts_ties: false,
+        inputs: payloads,
+        check: interleave,
+    },
+    Comparison {
+        name: "golay_encode",
+        layout: "the value in two bytes, high first",
+        shortest: None,
+        counts_ties: false,
+        inputs: values,
+        check: golay_encode,
+    },
+    Comparison {
+        name: "golay_decode",
+        layout: "the word in four bytes, highest first",
+        shortest: None,
+        counts_ties: false,
+        inputs: words,
+        check: golay_decode,
+    },
+];
+
+/// Ours refused with this number, and nothing else: the document's own answer outside the shared domain.
+fn refusal<T: PartialEq>(number: u8, ours: Result<T, Refused>, show: impl Fn(&T) -> String) -> Said {
+    match ours {
+        Err(said) if said == refused(number) => Said::Refused,
+        other => Said::Different { rust: format!("(refusal {number} is called for)"), ours: shown(&other, show) },
+    }
+}
+
+/// An answer, or what was refused.
+pub fn shown<T>(ours: &Result<T, Refused>, show: impl Fn(&T) -> String) -> String {
+    match ours {
+        Ok(answer) => show(answer),
+        Err(Refused { number, wrote: false }) => format!("refuses {number}"),
+        Err(Refused { number, wrote: true }) => format!("refuses {number}, and writes to lent memory"),
+    }
+}
+
+fn place_of(input: &[u8]) -> usize {
+    u64::from_be_bytes(input[..8].try_into().unwrap()) as usize
+}
+
+/// Every place of strings of the lengths 0 to 48 in turn, and a few past the end.
+fn places(
+    random: &mut Random,
+    strings: usize,
+    mut take: impl FnMut(usize, &[u8]) -> Result<(), Stop>,
+) -> Result<(), Stop> {
+    for turn in 0..strings {
+        let len = turn % 49;
+        let bytes = random.bytes(len);
+        for place in (0..8 * len + 9).chain([usize::MAX / 8, usize::MAX]) {
+            take(place, &bytes)?;
+        }
+    }
+    Ok(())
+}
+
+fn places_to_get(random: &mut Random, wanted: &Wanted, take: Take) -> Result<(), Stop> {
+    places(random, wanted.many(196), |place, bytes| take(&[&place.to_be_bytes()[..], bytes].concat()))
+}
+
+fn places_to_set(random: &mut Random, wanted: &Wanted, take: Take) -> Result<(), Stop> {
+    places(random, wanted.many(196), |place, bytes| {
+        for value in [0, 1, 2, 255] {
+            take(&[&place.to_be_bytes()[..], &[value], bytes].concat())?;
+        }
+        Ok(())
+    })
+}
+
+fn get_bit(input: &[u8]) -> Said {
+    let (place, bytes) = (place_of(input), &input[8..]);
+    let ours = ours::get_bit(bytes, place);
+    match answer(|| oracle::get_bit(bytes, place)) {
+        Some(rust) => same(Ok(rust), ours, |said| shown(said, u8::to_string)),
+        None => refusal(2, ours, u8::to_string),
+    }
+}
+
+fn set_bit(input: &[u8]) -> Said {
+    let (place, value, before) = (place_of(input), input[8], &input[9..]);
+    let mut bytes = before.to_vec();
+    let ours = match ours::set_bit(&mut bytes, place, value) {
+        0 => Ok(bytes),
+        number => Err(Refused { number, wrote: bytes != before }),
+    };
+    let rust = answer(|| {
+        let mut bytes = before.to_vec();
+        oracle::set_bit(&mut bytes, place, value);
+        bytes
+    });
+    let show = |bytes: &Vec<u8>| hex(bytes);
+    match rust {
+        Some(rust) => same(Ok(rust), ours, |said| shown(said, show)),
+        None => refusal(2, ours, show),
+    }
+}
+
+/// Nothing, all of one and of two bytes, and longer ones.
+fn messages(random: &mut Random, wanted: &Wanted, take: Take) -> Result<(), Stop> {
+    take(&[])?;
+    for byte in 0..=255 {
+        take(&[byte])?;
+    }
+    for pair in 0..=u16::MAX {
+        take(&pair.to_be_bytes())?;
+    }
+    for _ in 0..wanted.many(20_000) {
+        let len = random.below(901);
+        take(&random.bytes(len))?;
+    }
+    Ok(())
+}
+
+fn crc(input: &[u8]) -> Said {
+    same(oracle::crc::m17_crc(input), ours::crc(input), |crc| format!("{crc:04X}"))
+}
+
+/// The Rust has no CRC that goes on, so its CRC of the whole is what every parting has to give.
+fn crc_update(input: &[u8]) -> Said {
+    let rust = oracle::crc::m17_crc(input);
+    let len = input.len();
+    for place in [0, 1, 2, len / 3, len / 2, len.saturating_sub(1), len] {
+        let (first, rest) = input.split_at(place.min(len));
+        for start in [ours::crc(first), ours::crc_update(0xFFFF, first)] {
+            let ours = ours::crc_update(start, rest);
+            if rust != ours {
+                return same(rust, ours, |crc| format!("{crc:04X}, parted at {place}"));
+            }
+        }
+    }
+    Said::Same { tied: false }
+}
+
+fn strings_to_xor(random: &mut Random, wanted: &Wanted, take: Take) -> Result<(), Stop> {
+    for len in [0, 1, 45, 46, 47, 92, 368, 1000] {
+        for _ in 0..wanted.many(1000) {
+            take(&random.bytes(len))?;
+        }
+    }
+    Ok(())
+}
+
+fn random_xor(input: &[u8]) -> Said {
+    let (mut rust, mut ours) = (input.to_vec(), input.to_vec());
+    oracle::random_xor(&mut rust);
+    ours::random_xor(&mut ours);
+    same(rust, ours, |bytes| hex(bytes))
+}
+
+/// Every unit vector, random payloads, and other lengths.
+fn payloads(random: &mut Random, wanted: &Wanted, take: Take) -> Result<(), Stop> {
+    for place in 0..368 {
+        let mut unit = [0; 46];
+        unit[place / 8] = 0x80 >> (place % 8);
+        take(&unit)?;
+    }
+    for _ in 0..wanted.many(20_000) {
+        take(&random.bytes(46))?;
+    }
+    for len in (0..100).filter(|&len| len != 46) {
+        take(&random.bytes(len))?;
+    }
+    Ok(())
+}
+
+/// The Rust panics on less than 46 bytes and reads the first 46 of more; ours refuses both.
+fn interleave(input: &[u8]) -> Said {
+    let ours = ours::interleave(input);
+    let show = |bytes: &[u8; 46]| hex(bytes);
+    if input.len() == 46 {
+        return same(Ok(oracle::interleave(input)), ours, |said| shown(said, show));
+    }
+    refusal(1, ours, show)
+}
+
+fn values(_: &mut Random, _: &Wanted, take: Take) -> Result<(), Stop> {
+    (0..=u16::MAX).try_for_each(|value| take(&value.to_be_bytes()))
+}
+
+fn golay_encode(input: &[u8]) -> Said {
+    let value = u16::from_be_bytes(input.try_into().unwrap());
+    let ours = ours::golay_encode(value);
+    let show = |word: &u32| format!("{word:06X}");
+    if value < 4096 {
+        return same(Ok(golay::encode(value)), ours, |said| shown(said, show));
+    }
+    refusal(2, ours, show)
+}
+
+/// All words with `--full`; else random ones and all within four flips of a few codewords.
+fn words(random: &mut Random, wanted: &Wanted, take: Take) -> Result<(), Stop> {
+    let mut word = |word: u32| take(&word.to_be_bytes());
+    if wanted.full {
+        (0..1 << 24).try_for_each(&mut word)?;
+    }
+    for data in [0, 1, random.below(4096) as u16, 0xFFF] {
+        let codeword = golay::encode(data);
+        // A flip of bit 24 flips nothing, so that four places also stand for fewer.
+        for i in 0..25 {
+            for j in i..25 {
+                for k in j..25 {
+                    for l in k..25 {
+                        let flips = (1u32 << i | 1 << j | 1 << k | 1 << l) & 0xFFFFFF;
+                        word(codeword ^ flips)?;
+                    }
+                }
+            }
+        }
+    }
+    for _ in 0..wanted.many(200_000) {
+        word(random.number() as u32 >> 8)?;
+    }
+    for _ in 0..1000 {
+        word(random.number() as u32 | 1 << (24 + random.below(8)))?;
+    }
+    Ok(())
+}
+
+fn golay_decode(input: &[u8]) -> Said {
+    let word = u32::from_be_bytes(input.try_into().unwrap());
+    let ours = ours::golay_decode(word);
+    let rust = if word < 1 << 24 { golay::decode(word) } else { None };
+    let show = |data: &u16| format!("{data:03X}");
+    match rust {
+        Some((data, _)) => same(Ok(data), ours, |said| shown(said, show)),
+        None => refusal(4, ours, show),
+    }
+}

@@ -1,0 +1,3 @@
+pub mod Callsign
+pub mod Address
+pub mod When

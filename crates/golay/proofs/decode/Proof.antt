@@ -1,0 +1,21 @@
+-- `golay::decode` meets its contract. Assumes nothing.
+use Prim.Native.Nat.{_^_}
+use borrow.Author.Needs.{needs}
+use borrow.Author.Tests.{lt-ltb, le-ltb}
+use Rattle.golay.specs.Golay.{decodedOf}
+use Rattle.golay.proofs.decode.Statement.{statement}
+use Rattle.golay.proofs.decode.Tie as tie
+
+returns : tie.Need-returns
+unfolding decodedOf
+returns c = simp (le-ltb (c .before .args .word) (2 ^ 24) (c .if1 .taken))
+
+search-requires : tie.Need-search-requires
+search-requires c κs = search needs
+
+returns-2 : tie.Need-returns-2
+unfolding decodedOf
+returns-2 c = simp (lt-ltb (c .before .before .args .word) (2 ^ 24) (c .before .if1 .left)) (c .search .ensures)
+
+pub decode-spec : {M : Type 1} → statement M
+decode-spec = tie.close (tie.spec returns search-requires returns-2)

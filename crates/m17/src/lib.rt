@@ -1,0 +1,199 @@
+// The codec for C and Rust. Each function answers 0 or the number of its refusal, and writes what it answers through
+// lent memory, which a refusal leaves as it was.
+ghost use mathlib.Core.Path.{_≡_};
+ghost use Rattle.refusal.specs.Number.{saidOf};
+ghost use Rattle.bits.specs.Places.{getOf, setOf, withBit, numberOfBit};
+ghost use Rattle.crc.specs.Crc.{crcFrom, crc};
+ghost use Rattle.random.specs.Random.{xored};
+ghost use Rattle.interleave.specs.Interleave.{interleavedOf};
+ghost use Rattle.address.specs.Address.{decodedOf as addressReadOf, numberOfHeard, unwritten};
+ghost use Rattle.golay.specs.Golay.{encodedOf, decodedOf, numberOfCodeword, numberOfReading};
+ghost use Rattle.m17.specs.Given.{bitGiven, bytesGiven, wordGiven, dataGiven, heardGiven, charactersGiven};
+ghost use Rattle.m17.specs.Kinds.{kindOf, reservedOf, addressFor, addressWrittenOf};
+use address::Address;
+use address::Heard;
+use address::Written;
+use bits::Bit;
+use golay::Codeword;
+use golay::Reading;
+use refusal::Refusal;
+use refusal::Verdict;
+
+#[no_mangle]
+pub extern "C" fn m17_get_bit(bytes: &[u8], place: usize, out: &mut u8) -> u8
+    ensures { λ r. ⌜ (r ≡ numberOfBit (getOf (now (bytes .entry)) place)) × (now (out .exit) ≡ bitGiven (getOf (now (bytes .entry)) place) (now (out .entry))) ⌝ }
+{
+    match bits::get_bit(bytes, place) {
+        Bit::Value(b) => {
+            *out = b;
+            0
+        }
+        Bit::Refused(why) => refusal::number(why),
+    }
+}
+
+#[no_mangle]
+pub extern "C" fn m17_set_bit(bytes: &mut [u8], place: usize, value: u8) -> u8
+    ensures { λ r. ⌜ (r ≡ saidOf (setOf (now (bytes .entry)) place)) × (now (bytes .exit) ≡ withBit (now (bytes .entry)) place value) ⌝ }
+{
+    refusal::said(bits::set_bit(bytes, place, value))
+}
+
+#[no_mangle]
+pub extern "C" fn m17_crc(input: &[u8]) -> u16
+    ensures { λ r. ⌜ r ≡ crc (now (input .entry)) ⌝ }
+{
+    crc::m17_crc(input)
+}
+
+#[no_mangle]
+pub extern "C" fn m17_crc_update(start: u16, input: &[u8]) -> u16
+    ensures { λ r. ⌜ r ≡ crcFrom start (now (input .entry)) ⌝ }
+{
+    crc::update(start, input)
+}
+
+#[no_mangle]
+pub extern "C" fn m17_random_xor(bytes: &mut [u8])
+    ensures { λ r. ⌜ now (bytes .exit) ≡ xored (now (bytes .entry)) ⌝ }
+{
+    random::random_xor(bytes)
+}
+
+#[no_mangle]
+pub extern "C" fn m17_interleave(payload: &[u8], out: &mut [u8; 46]) -> u8
+    ensures { λ r. ⌜ (r ≡ saidOf (interleavedOf (now (payload .entry)) .answer)) × (now (out .exit) ≡ bytesGiven (interleavedOf (now (payload .entry)) .answer) (interleavedOf (now (payload .entry)) .bytes) (now (out .entry))) ⌝ }
+{
+    let done = interleave::interleave(payload);
+    let answer = done.answer;
+    match answer {
+        Verdict::Done => {
+            let bytes = done.bytes;
+            *out = bytes;
+            0
+        }
+        Verdict::Refused(why) => refusal::number(why),
+    }
+}
+
+#[no_mangle]
+pub extern "C" fn m17_golay_encode(value: u16, out: &mut u32) -> u8
+    ensures { λ r. ⌜ (r ≡ numberOfCodeword (encodedOf value)) × (now (out .exit) ≡ wordGiven (encodedOf value) (now (out .entry))) ⌝ }
+{
+    match golay::encode(value) {
+        Codeword::Word(w) => {
+            *out = w;
+            0
+        }
+        Codeword::Refused(why) => refusal::number(why),
+    }
+}
+
+#[no_mangle]
+pub extern "C" fn m17_golay_decode(word: u32, out: &mut u16) -> u8
+    ensures { λ r. ⌜ (r ≡ numberOfReading (decodedOf word)) × (now (out .exit) ≡ dataGiven (decodedOf word) (now (out .entry))) ⌝ }
+{
+    match golay::decode(word) {
+        Reading::Data(d) => {
+            *out = d;
+            0
+        }
+        Reading::Refused(why) => refusal::number(why),
+    }
+}
+
+fn kind_of(address: Address) -> u8
+    ensures { λ r. ⌜ r ≡ kindOf address ⌝ }
+{
+    match address {
+        Address::Invalid => 0,
+        Address::Callsign => 1,
+        Address::Reserved(_) => 2,
+        Address::Broadcast => 3,
+    }
+}
+
+fn reserved_of(address: Address) -> u64
+    ensures { λ r. ⌜ r ≡ reservedOf address ⌝ }
+{
+    match address {
+        Address::Invalid => 0,
+        Address::Callsign => 0,
+        Address::Reserved(value) => value,
+        Address::Broadcast => 0,
+    }
+}
+
+#[no_mangle]
+pub extern "C" fn m17_decode_address(
+    encoded: &[u8],
+    kind: &mut u8,
+    value: &mut u64,
+    callsign: &mut [u8; 9],
+) -> u8
+    ensures { λ r. ⌜ (r ≡ numberOfHeard (addressReadOf (now (encoded .entry)) .answer)) × (now (kind .exit) ≡ heardGiven kindOf (addressReadOf (now (encoded .entry)) .answer) (now (kind .entry))) × (now (value .exit) ≡ heardGiven reservedOf (addressReadOf (now (encoded .entry)) .answer) (now (value .entry))) × (now (callsign .exit) ≡ charactersGiven (addressReadOf (now (encoded .entry))) (now (callsign .entry))) ⌝ }
+{
+    let read = address::decode_address(encoded);
+    let answer = read.answer;
+    match answer {
+        Heard::Read(a) => {
+            let characters = read.callsign;
+            *callsign = characters;
+            *kind = kind_of(a);
+            *value = reserved_of(a);
+            0
+        }
+        Heard::Refused(why) => refusal::number(why),
+    }
+}
+
+fn address_for(kind: u8, value: u64) -> Address
+    ensures { λ r. ⌜ r ≡ addressFor kind value ⌝ }
+{
+    if kind == 0 {
+        Address::Invalid
+    } else if kind == 1 {
+        Address::Callsign
+    } else if kind == 2 {
+        Address::Reserved(value)
+    } else {
+        Address::Broadcast
+    }
+}
+
+fn unwritten_address(why: Refusal) -> Written
+    ensures { λ r. ⌜ r ≡ unwritten why ⌝ }
+{
+    Written {
+        answer: Verdict::Refused(why),
+        bytes: [0u8; 6],
+    }
+}
+
+fn written_address(kind: u8, value: u64, callsign: &[u8]) -> Written
+    ensures { λ r. ⌜ r ≡ addressWrittenOf kind value (now (callsign .entry)) ⌝ }
+{
+    if callsign.len() != 9 {
+        return unwritten_address(Refusal::WrongLength);
+    }
+    if 3 < kind {
+        return unwritten_address(Refusal::OutOfRange);
+    }
+    address::encode_address(address_for(kind, value), callsign)
+}
+
+#[no_mangle]
+pub extern "C" fn m17_encode_address(kind: u8, value: u64, callsign: &[u8], out: &mut [u8; 6]) -> u8
+    ensures { λ r. ⌜ (r ≡ saidOf (addressWrittenOf kind value (now (callsign .entry)) .answer)) × (now (out .exit) ≡ bytesGiven (addressWrittenOf kind value (now (callsign .entry)) .answer) (addressWrittenOf kind value (now (callsign .entry)) .bytes) (now (out .entry))) ⌝ }
+{
+    let done = written_address(kind, value, callsign);
+    let answer = done.answer;
+    match answer {
+        Verdict::Done => {
+            let six = done.bytes;
+            *out = six;
+            0
+        }
+        Verdict::Refused(why) => refusal::number(why),
+    }
+}

@@ -2,14 +2,17 @@
 use mathlib.Core.Path.{_≡_, refl, sym, ap, ap₂, _∙_}
 use mathlib.Core.Bool.{Bool, true, false}
 use mathlib.Core.List.{List, [], _∷_, _++_}
-use Prim.Native.Nat.{ℕ, zero, suc, _+_, _-_, _*_, _/_, _%_, _^_, _<_}
+use Prim.Native.Nat.{ℕ, zero, suc, _+_, _-_, _*_, _/_, _%_, _^_, _<_, _≤_}
 use native.Mathlib.Nat.{zero-div}
 use native.Mathlib.Omega.{arith}
 use lib.Dec.{eqb, eqb→eq}
-use lib.ListN.{length, getD, take, drop}
-use lib.Seq.{drop-drop}
+use lib.ListN.{length, getD, take, drop, replicate, length-append, length-replicate}
+use lib.Seq.{drop-drop, ext-getD, getD-drop}
+use Rattle.laws.specs.Tabled.{tabled}
 use Rattle.laws.specs.Value.{Bytes}
 use Rattle.laws.proofs.Every.{every-at}
+use Rattle.laws.proofs.Values.{tabled-only}
+use Rattle.laws.proofs.Padded.{padded-at}
 use Rattle.bits.specs.Bits.{odd, bit, eight, bitsOf, byteOf, bytesOf}
 
 -- ---- a bit as a number
@@ -122,6 +125,31 @@ byte-at (suc n) l (suc i) h =
     let e : 8 + 8 * i ≡ 8 * suc i = omega arith in
     byte-at n (drop 8 l) i (omega arith) ∙ ap byteOf (drop-drop (8 * i) 8 l ∙ ap (λ (m : ℕ). drop m l) e)
 
+-- so a loop that packs a byte a turn makes them
+pub bytes-tabled : (n : ℕ) (l : List Bool) → bytesOf n l ≡ tabled (λ k. byteOf (drop (8 * k) l)) n
+bytes-tabled n l = tabled-only (λ k. byteOf (drop (8 * k) l)) n (bytesOf n l) 0 (length-bytes n l) (λ k h. byte-at n l k h)
+
+-- n bytes are made of the first 8 n bits, a missing bit being 0
+pub bytes-alike : (n : ℕ) (l m : List Bool) → ((k : ℕ) → k < 8 * n → getD l k false ≡ getD m k false) → bytesOf n l ≡ bytesOf n m
+bytes-alike n l m same =
+    ext-getD 0 (bytesOf n l) (bytesOf n m) (length-bytes n l ∙ sym (length-bytes n m))
+    (λ i h.
+    let b : i < n = omega (arith, length-bytes n l) in
+    byte-at n l i b ∙ one i b ∙ sym (byte-at n m i b))
+  where
+    one : (i : ℕ) → i < n → byteOf (drop (8 * i) l) ≡ byteOf (drop (8 * i) m)
+    one i b =
+        let at : (c : ℕ) → c < 8 → bit (getD (drop (8 * i) l) c false) ≡ bit (getD (drop (8 * i) m) c false) =
+        λ c q. ap bit (getD-drop (8 * i) l c false ∙ same (8 * i + c) (omega arith) ∙ sym (getD-drop (8 * i) m c false)) in
+        omega (arith, at 0 (omega arith), at 1 (omega arith), at 2 (omega arith), at 3 (omega arith), at 4 (omega arith), at 5 (omega arith), at 6 (omega arith), at 7 (omega arith))
+
+-- the first bytes of more
+pub take-bytes : (n m : ℕ) (l : List Bool) → n ≤ m → take n (bytesOf m l) ≡ bytesOf n l
+unfolding bytesOf
+take-bytes zero m l h = refl
+take-bytes (suc n) zero l h = absurd (omega arith)
+take-bytes (suc n) (suc m) l h = ap (λ (s : List ℕ). byteOf l ∷ s) (take-bytes n m (drop 8 l) (omega arith))
+
 byte-lt : (l : List Bool) → byteOf l < 256
 byte-lt l =
     omega (
@@ -176,3 +204,16 @@ drop-octuple (suc n) (x ∷ s) = drop-octuple n s
 
 pub drop-bits : (n : ℕ) (s : List ℕ) → drop (8 * n) (bitsOf s) ≡ bitsOf (drop n s)
 drop-bits n s = ap (λ (m : ℕ). drop m (bitsOf s)) (sym (octuple-is n)) ∙ drop-octuple n s
+
+-- ---- fewer bits than the bytes hold
+
+-- bytes of zeros past the end add no bit that is set
+pub padded-bit : (s : List ℕ) (n k : ℕ) → getD (bitsOf (s ++ replicate n 0)) k false ≡ getD (bitsOf s) k false
+padded-bit s n k =
+    bit-at (s ++ replicate n 0) k ∙ ap (λ (x : ℕ). odd (x / 2 ^ (7 - k % 8))) (padded-at 0 s n (k / 8)) ∙ sym (bit-at s k)
+
+-- what is packed into bytes that hold more comes back, and then zeros
+pub bits-bytes-padded : (n m : ℕ) (l : List Bool) → length l + m ≡ 8 * n → bitsOf (bytesOf n l) ≡ l ++ replicate m false
+bits-bytes-padded n m l h =
+    ap bitsOf (bytes-alike n l (l ++ replicate m false) (λ k b. sym (padded-at false l m k)))
+    ∙ bits-bytes n (l ++ replicate m false) (length-append l (replicate m false) ∙ ap (λ (k : ℕ). length l + k) (length-replicate m false) ∙ h)

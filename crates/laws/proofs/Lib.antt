@@ -4,3 +4,4 @@ pub mod InPlace
 pub mod Xor
 pub mod Divide
 pub mod Number
+pub mod Padded

@@ -1,0 +1,15 @@
+pub mod Order
+pub mod Unique
+pub mod Codes
+pub mod Answers
+pub mod States
+pub mod Viterbi
+pub mod Steps
+pub mod Rows
+pub mod Tracing
+pub mod Packed
+pub mod Written
+pub mod Bodies
+pub mod When
+pub mod Round
+pub mod Bench

@@ -1,0 +1,4 @@
+pub mod Code
+pub mod Nearest
+pub mod Kinds
+pub mod Search

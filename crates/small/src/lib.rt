@@ -1,0 +1,1 @@
+// Small cases of the nearest word, computed from its definition: there is no code here.

@@ -9,11 +9,15 @@ ghost use Rattle.interleave.specs.Interleave.{interleavedOf};
 ghost use Rattle.address.specs.Address.{decodedOf as addressReadOf, numberOfHeard, unwritten};
 ghost use Rattle.golay.specs.Golay.{encodedOf, decodedOf, numberOfCodeword, numberOfReading};
 ghost use Rattle.m17.specs.Given.{bitGiven, bytesGiven, wordGiven, dataGiven, heardGiven, charactersGiven};
+ghost use Rattle.m17.specs.Fec.{kindFor, codedOf, readOf};
 ghost use Rattle.m17.specs.Kinds.{kindOf, reservedOf, addressFor, addressWrittenOf};
 use address::Address;
 use address::Heard;
 use address::Written;
 use bits::Bit;
+use fec::Coded;
+use fec::Decoded;
+use fec::Kind;
 use golay::Codeword;
 use golay::Reading;
 use refusal::Refusal;
@@ -192,6 +196,74 @@ pub extern "C" fn m17_encode_address(kind: u8, value: u64, callsign: &[u8], out:
         Verdict::Done => {
             let six = done.bytes;
             *out = six;
+            0
+        }
+        Verdict::Refused(why) => refusal::number(why),
+    }
+}
+
+fn kind_for(kind: u8) -> Kind
+    ensures { λ r. ⌜ r ≡ kindFor kind ⌝ }
+{
+    if kind == 0 {
+        return Kind::Header;
+    }
+    if kind == 1 {
+        return Kind::Stream;
+    }
+    Kind::Packet
+}
+
+fn coded(kind: u8, plain: &[u8]) -> Coded
+    ensures { λ r. ⌜ r ≡ codedOf kind (now (plain .entry)) ⌝ }
+{
+    if 2 < kind {
+        return Coded {
+            answer: Verdict::Refused(Refusal::OutOfRange),
+            bytes: [0u8; 46],
+        };
+    }
+    fec::encode(kind_for(kind), plain)
+}
+
+fn read(kind: u8, received: &[u8]) -> Decoded
+    ensures { λ r. ⌜ r ≡ readOf kind (now (received .entry)) ⌝ }
+{
+    if 2 < kind {
+        return Decoded {
+            answer: Verdict::Refused(Refusal::OutOfRange),
+            bytes: [0u8; 30],
+        };
+    }
+    fec::decode(kind_for(kind), received)
+}
+
+#[no_mangle]
+pub extern "C" fn m17_fec_encode(kind: u8, plain: &[u8], out: &mut [u8; 46]) -> u8
+    ensures { λ r. ⌜ (r ≡ saidOf (codedOf kind (now (plain .entry)) .answer)) × (now (out .exit) ≡ bytesGiven (codedOf kind (now (plain .entry)) .answer) (codedOf kind (now (plain .entry)) .bytes) (now (out .entry))) ⌝ }
+{
+    let done = coded(kind, plain);
+    let answer = done.answer;
+    match answer {
+        Verdict::Done => {
+            let packed = done.bytes;
+            *out = packed;
+            0
+        }
+        Verdict::Refused(why) => refusal::number(why),
+    }
+}
+
+#[no_mangle]
+pub extern "C" fn m17_fec_decode(kind: u8, received: &[u8], out: &mut [u8; 30]) -> u8
+    ensures { λ r. ⌜ (r ≡ saidOf (readOf kind (now (received .entry)) .answer)) × (now (out .exit) ≡ bytesGiven (readOf kind (now (received .entry)) .answer) (readOf kind (now (received .entry)) .bytes) (now (out .entry))) ⌝ }
+{
+    let done = read(kind, received);
+    let answer = done.answer;
+    match answer {
+        Verdict::Done => {
+            let found = done.bytes;
+            *out = found;
             0
         }
         Verdict::Refused(why) => refusal::number(why),

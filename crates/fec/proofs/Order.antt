@@ -55,7 +55,7 @@ decided-high (suc k) [] u v h = absurd (omega arith)
 decided-high (suc k) (true ∷ l) u v h = decided-high k l u v (omega arith)
 decided-high (suc k) (false ∷ l) u v h = decided-high k l u v (omega arith)
 
--- two words of m bits that agree in all places after i, where the first has x and the second y
+-- two words of m bits that agree in all places after i
 module _ (m i : ℕ) (w v : List Bool) (long-w : length w ≡ m) (long-v : length v ≡ m) (within : i < m)
     (later : (j : ℕ) → i < j → j < m → getD w j false ≡ getD v j false) where
   -- what comes after place i, the last bit first

@@ -5,14 +5,54 @@ use crate::observe::hex;
 use crate::random::Random;
 use oracle::Kind;
 
-pub const ALL: [Comparison; 1] = [Comparison {
-    name: "definition",
-    layout: "the kind, n, and the received bits in two bytes",
-    shortest: None,
-    counts_ties: true,
-    inputs: short_words,
-    check: definition,
-}];
+pub const ALL: [Comparison; 2] = [
+    Comparison {
+        name: "definition",
+        layout: "the kind, n, and the received bits in two bytes",
+        shortest: None,
+        counts_ties: true,
+        inputs: short_words,
+        check: definition,
+    },
+    Comparison {
+        name: "proved small cases",
+        layout: "the kind, n, the received bits in two bytes, the answer's bits, and its distance",
+        shortest: None,
+        counts_ties: false,
+        inputs: proved_words,
+        check: proved,
+    },
+];
+
+/// The small cases that the proofs computed from the definition: puncturing, n, received bits, answer, distance.
+const PROVED: &str = include_str!("../../../docs/small-nearest.txt");
+
+fn proved_words(_: &mut Random, _: &Wanted, take: Take) -> Result<(), Stop> {
+    for line in PROVED.lines() {
+        let words: Vec<&str> = line.split_whitespace().collect();
+        let spelled = |bits: &str, wide: u32| u16::from_str_radix(bits, 2).expect("bits") << (wide - bits.len() as u32);
+        let [high, low] = spelled(words[2], 16).to_be_bytes();
+        let number = |word: &str| word.parse::<u8>().expect("a number");
+        take(&[number(words[0]) - 1, number(words[1]), high, low, spelled(words[3], 8) as u8, number(words[4])])?;
+    }
+    Ok(())
+}
+
+fn proved(input: &[u8]) -> Said {
+    let (kind, n, received) = (Kind::ALL[input[0] as usize % 3], input[1] as usize, &input[2..4]);
+    let mut answer = [0u8; 30];
+    answer[0] = input[4];
+    let called_for = (input[5] <= 6).then_some(answer);
+    let rust = oracle::fec_decode_short(kind, n, received);
+    match (rust, called_for) {
+        (Some(said), Some(first)) if said == first => Said::Same { tied: false },
+        (None, None) => Said::Refused,
+        _ => {
+            let show = |said: Option<[u8; 30]>| said.map_or("refuses 3".into(), |said| hex(&said));
+            Said::Different { rust: show(rust), ours: format!("(proved) {}", show(called_for)) }
+        }
+    }
+}
 
 /// All received words for n of 1 to 3.
 fn short_words(_: &mut Random, _: &Wanted, take: Take) -> Result<(), Stop> {

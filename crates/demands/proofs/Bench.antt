@@ -4,6 +4,7 @@ use mathlib.Core.Path.{_≡_, refl}
 use mathlib.Core.List.{List, [], _∷_, _++_}
 use Prim.Native.Nat.{ℕ, _-_, _^_}
 use lib.Count.{onesIn}
+use lib.ListN.{replicate}
 use Rattle.laws.specs.Division.{reduce, rem}
 use Rattle.laws.specs.Value.{valueOf, inBytes}
 use Rattle.refusal.specs.Number.{numberOf}
@@ -16,6 +17,10 @@ use Rattle.address.specs.declared.Heard.{Heard}
 use Rattle.address.specs.Callsign.{alphabet, character, callsignOf, upper, placeIn, digitOf, known, blank, callsignValue}
 use Rattle.address.specs.Address.{encodedOf, decodedOf, addressOf}
 use Rattle.golay.specs.Golay.{golay}
+use Rattle.fec.specs.declared.Kind.the-variants.{Header, Stream, Packet}
+use Rattle.fec.specs.Code.{sends, coded, code}
+use Rattle.fec.specs.Kinds as coding
+use Rattle.bits.specs.Bits.{bitsOf, bytesOf}
 
 -- an address as numbers: 0 invalid, 1 callsign, 2 reserved with its value, 3 broadcast
 abbrev spoken : Heard → List ℕ
@@ -34,6 +39,9 @@ computed =
     ∷ spoken (decodedOf (inBytes 6 (40 ^ 9)) .answer)
     ∷ (golay 0 ∷ golay 1 ∷ [])
     ∷ (mapped 1 ∷ mapped 137 ∷ [])
+    ∷ coding.encodedOf Header (0x80 ∷ replicate 29 0) .bytes
+    ∷ coding.encodedOf Stream (0x80 ∷ replicate 17 0) .bytes
+    ∷ coding.encodedOf Packet (0x80 ∷ replicate 25 0) .bytes
     ∷ []
 
 unfoldable pub given : List (List ℕ)
@@ -45,8 +53,11 @@ given =
     ∷ (2 ∷ 0xEE6B28000000 ∷ [])
     ∷ (0 ∷ 0x0018EB ∷ [])
     ∷ (137 ∷ 1 ∷ [])
+    ∷ (0xEB ∷ replicate 45 0)
+    ∷ (0xD6 ∷ 0xC0 ∷ replicate 44 0)
+    ∷ (0xD7 ∷ 0x80 ∷ replicate 44 0)
     ∷ []
 
 pub bench : computed ≡ given
-unfolding computed given crc crcFrom rem reduce valueOf inBytes encodedOf decodedOf addressOf callsignOf character known blank callsignValue digitOf placeIn alphabet upper golay onesIn mapped
+unfolding computed given crc crcFrom rem reduce valueOf inBytes encodedOf decodedOf addressOf callsignOf character known blank callsignValue digitOf placeIn alphabet upper golay onesIn mapped coding.encodedOf bitsOf bytesOf sends coded code
 bench = refl

@@ -12,4 +12,3 @@ pub mod Written
 pub mod Bodies
 pub mod When
 pub mod Round
-pub mod Bench

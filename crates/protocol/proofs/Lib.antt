@@ -1,0 +1,9 @@
+pub mod Bits
+pub mod Pasted
+pub mod Whole
+pub mod Held
+pub mod TypeBits
+pub mod Written
+pub mod NewHeader
+pub mod Setters
+pub mod Flags

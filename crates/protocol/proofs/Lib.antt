@@ -7,3 +7,5 @@ pub mod Written
 pub mod NewHeader
 pub mod Setters
 pub mod Flags
+pub mod Gathered
+pub mod Named

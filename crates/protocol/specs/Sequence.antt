@@ -34,7 +34,3 @@ last (x ∷ h) k = cond (setsAt k x) (x .part) (last h k)
 -- the last parts of counters 0 to 5, one after the other
 abbrev pub joined : List Segment → List ℕ
 joined h = last h 0 ++ last h 1 ++ last h 2 ++ last h 3 ++ last h 4 ++ last h 5
-
--- a part was set at each of the six counters
-abbrev pub allSet : List Segment → Bool
-allSet h = wasSet h 0 && (wasSet h 1 && (wasSet h 2 && (wasSet h 3 && (wasSet h 4 && wasSet h 5))))

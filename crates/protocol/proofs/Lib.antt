@@ -9,3 +9,4 @@ pub mod Setters
 pub mod Flags
 pub mod Gathered
 pub mod Named
+pub mod Exactly

@@ -21,7 +21,7 @@ use Rattle.protocol.specs.Header.{header, answered, refusedMade, address
 
 -- ---- what an answer says
 
-answered-said : (v : Verdict) (s : List ℕ) → answered v s .answer ≡ v
+pub answered-said : (v : Verdict) (s : List ℕ) → answered v s .answer ≡ v
 answered-said Done s = refl
 answered-said (Refused why) s = refl
 

@@ -3,3 +3,4 @@ pub mod Fields
 pub mod Header
 pub mod Lich
 pub mod Sequence
+pub mod When

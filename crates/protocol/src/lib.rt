@@ -125,12 +125,12 @@ fn encryption_number(encryption_type: EncryptionType) -> u16
     }
 }
 
-fn done(bytes: [u8; 30]) -> Made
-    ensures { λ r. ⌜ r ≡ answered Verdict.Done bytes ⌝ }
+fn done(header: LsfFrame) -> Made
+    ensures { λ r. ⌜ r ≡ answered Verdict.Done (header .bytes) ⌝ }
 {
     Made {
         answer: Verdict::Done,
-        header: LsfFrame { bytes },
+        header,
     }
 }
 
@@ -157,7 +157,7 @@ impl LsfFrame {
             b[i] = bytes[i];
             i += 1;
         }
-        done(b)
+        done(LsfFrame { bytes: b })
     }
 
     // The CRC of all thirty bytes: zero for a valid header.
@@ -246,7 +246,9 @@ impl LsfFrame {
             Verdict::Done => {
                 let b = self.bytes;
                 let six = written.bytes;
-                done(with_address(b, 0, six))
+                let c = with_address(b, 0, six);
+                self.bytes = c;
+                done(self)
             }
         }
     }
@@ -261,7 +263,9 @@ impl LsfFrame {
             Verdict::Done => {
                 let b = self.bytes;
                 let six = written.bytes;
-                done(with_address(b, 6, six))
+                let c = with_address(b, 6, six);
+                self.bytes = c;
+                done(self)
             }
         }
     }
@@ -308,7 +312,9 @@ impl LsfFrame {
         let b = self.bytes;
         let n = wide(number);
         let t = type_of(b);
-        done(with_type(b, t / 2048 * 2048 + n * 128 + t % 128))
+        let c = with_type(b, t / 2048 * 2048 + n * 128 + t % 128);
+        self.bytes = c;
+        done(self)
     }
 
     // A header for voice in a stream.
@@ -383,8 +389,7 @@ fn new_header(
     let made = h.set_mode(mode)
         .set_data_type(data_type)
         .set_encryption_type(EncryptionType::None);
-    let b = made.bytes;
-    done(b)
+    done(made)
 }
 
 // A stream frame.

@@ -77,7 +77,7 @@ done-requires c κs = search needs
 
 returns-5 : tie.Need-returns-5
 returns-5 c =
-    let e = c .before .before in
+    let e = c .before in
     let d = e .before in
     let m = d .before in
     let g = m .before .before .before .before in

@@ -5,11 +5,11 @@ use mathlib.Core.Logic.{⊎-elim}
 use mathlib.Core.List.{List}
 use Prim.Native.Nat.{ℕ}
 use native.Mathlib.Omega.{arith}
-use lib.Dec.{eqb, leb}
+use lib.Dec.{eqb}
 use lib.ListN.{length}
 use borrow.Author.Tests.{eq-eqb, ne-eqb, le-leb, lt-leb}
 use Rattle.refusal.specs.Number.{saidOf}
-use Rattle.refusal.specs.declared.Refusal.the-variants.{WrongLength, OutOfRange, BadAddress}
+use Rattle.refusal.specs.declared.Refusal.the-variants.{WrongLength, BadAddress}
 use Rattle.refusal.specs.declared.Verdict.{Verdict}
 use Rattle.refusal.specs.declared.Verdict.the-variants.{Done, Refused}
 use Rattle.address.specs.declared.Address.{Address}
@@ -21,8 +21,8 @@ use Rattle.address.proofs.Exactly.{written-exactly}
 use Rattle.protocol.specs.declared.Mode.{Mode}
 use Rattle.protocol.specs.declared.DataType.{DataType}
 use Rattle.protocol.specs.declared.LichCollection.{LichCollection}
-use Rattle.protocol.specs.Fields.{Place, setField}
-use Rattle.protocol.specs.Header.{answered, fromOf, addressSet, numberSet, first, newSaid, newBytes, newOf}
+use Rattle.protocol.specs.Fields.{Place}
+use Rattle.protocol.specs.Header.{fromOf, addressSet, numberSet, first, newSaid, newBytes, newOf}
 use Rattle.protocol.specs.Lich.{partSaid, withPart, collected, setOf}
 use Rattle.protocol.specs.When.{FromExactly, NumberExactly, NewExactly, PartExactly}
 use Rattle.protocol.proofs.NewHeader.{answered-said}

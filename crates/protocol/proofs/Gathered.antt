@@ -7,16 +7,15 @@ use native.Mathlib.Omega.{arith}
 use native.Mathlib.Decide.{ℕ-discrete}
 use lib.Dec.{eqb, leb}
 use lib.ListN.{length, getD, set, take, drop, replicate, length-set}
-use lib.Seq.{getD-set-same, getD-set-other, take-at, drop-append-add, take-append-add}
-use borrow.Author.Tests.{eqb-true, eqb-false, eq-eqb, ne-eqb, leb-true, leb-false, le-leb, lt-leb}
+use lib.Seq.{getD-set-same, getD-set-other, drop-append-add, take-append-add}
+use borrow.Author.Tests.{eqb-true, eq-eqb, ne-eqb, leb-true, le-leb}
 use Rattle.refusal.specs.declared.Refusal.the-variants.{WrongLength, OutOfRange}
 use Rattle.refusal.specs.declared.Verdict.the-variants.{Done, Refused}
 use Rattle.laws.specs.Tabled.{valuesFrom, tabled}
 use Rattle.laws.proofs.Values.{length-tabled, tabled-at, tabled-only}
 use Rattle.protocol.specs.declared.LichCollection.{LichCollection}
 use Rattle.protocol.specs.declared.Assembly.the-variants.{Header, NotYet}
-use Rattle.protocol.specs.declared.Assembled.{Assembled}
-use Rattle.protocol.specs.Lich.{empty, flagsSet, partSaid, withPart, collected, setOf, assembledOf}
+use Rattle.protocol.specs.Lich.{flagsSet, withPart, collected, setOf, assembledOf}
 use Rattle.protocol.specs.Sequence.{Segment, after, setsAt, wasSet, last, joined}
 
 -- ---- parts of five bytes, one after the other, and one of them replaced

@@ -10,3 +10,4 @@ pub mod Flags
 pub mod Gathered
 pub mod Named
 pub mod Exactly
+pub mod Fresh

@@ -1,16 +1,16 @@
 -- The fields by name: no two of them share a bit, and what each setter sets reads back by its reader. Assumes nothing.
-use mathlib.Core.Path.{_≡_, refl, sym, ap, ap₂, _∙_}
+use mathlib.Core.Path.{_≡_, refl, sym, ap, _∙_}
 use mathlib.Core.Bool.{Bool, true, false, cond}
-use mathlib.Core.Logic.{_⊎_, inl, inr, ⊎-elim}
+use mathlib.Core.Logic.{inl, inr}
 use mathlib.Core.List.{List, [], _∷_}
-use Prim.Native.Nat.{ℕ, _+_, _*_, _^_, _<_, _≤_}
+use Prim.Native.Nat.{ℕ, _+_, _^_, _<_, _≤_}
 use native.Mathlib.Omega.{arith}
 use lib.Dec.{T, eqb, leb, lit<}
 use lib.ListN.{length, getD, take, drop, length-drop}
 use lib.Seq.{length-take-le}
 use borrow.Author.Tests.{eqb-true, leb-true}
 use Rattle.refusal.specs.declared.Verdict.the-variants.{Done}
-use Rattle.laws.specs.Value.{valueOf, inBytes, Bytes}
+use Rattle.laws.specs.Value.{valueOf, inBytes}
 use Rattle.laws.proofs.Every.{every, every-at}
 use Rattle.laws.proofs.Number.{bytes-of-value}
 use Rattle.crc.proofs.Parts.{bytes-take}

@@ -4,7 +4,7 @@ use mathlib.Core.Path.{_≡_, sym, ap, _∙_}
 use mathlib.Core.List.{List, [], _∷_}
 use Prim.Native.Nat.{ℕ, _+_, _^_, _<_, _≤_}
 use native.Mathlib.Omega.{arith}
-use lib.ListN.{getD, drop, take}
+use lib.ListN.{getD, take}
 use lib.Seq.{drop-cons}
 use Rattle.laws.specs.Value.{valueOf}
 use Rattle.crc.specs.Crc.{crc}

@@ -10,6 +10,10 @@ module _ (k w : ℕ) (s : List ℕ) (within : k + w ≤ 16) (t : ℕ) (type : t 
   unfolding field bitsAt
   type-read = read-within 112 16 k w (fieldsOf s) within ∙ ap (λ (n : ℕ). n / 2 ^ k % 2 ^ w) (sym type)
 
+  -- what the bits say, where they are n
+  pub type-says : {A : Type 0} (says : ℕ → A) (n : ℕ) → t / 2 ^ k % 2 ^ w ≡ n → says n ≡ says (field (typeBits k w) s)
+  type-says says n e = sym (ap says (type-read ∙ e))
+
   -- x is the type value with v in those bits
   pub type-set : (v x : ℕ) → x ≡ t / 2 ^ (k + w) * 2 ^ (k + w) + v * 2 ^ k + t % 2 ^ k → setField typeBytes x s ≡ setField (typeBits k w) v s
   unfolding field setField withBits

@@ -5,20 +5,28 @@ use Prim.Native.Nat.{ℕ, zero, suc, _+_, _-_, _*_, _/_, _%_, _^_, _<_, _≤_}
 use native.Mathlib.Nat.{pow-suc, mod-lt, one-le-pow, div-one, div-lt-iff-lt-mul}
 use native.Mathlib.Omega.{arith}
 use lib.Dec.{lit<}
-use lib.ListN.{length, getD, take, drop, set, length-append, length-drop, drop-of-length-le}
+use lib.ListN.{length, getD, replicate, take, drop, set, length-append, length-drop, drop-of-length-le}
 use lib.Seq.{sets-eq, take-at, take-add, take-append-add, length-take-le, drop-cons}
 use Rattle.laws.specs.Value.{valueOf, inBytes, Bytes}
 use Rattle.laws.proofs.Number.{value-lt, length-in-bytes, bytes-of-value, value-of-bytes, value-append, bits-of-bytes}
 use Rattle.crc.specs.Crc.{crc}
 use Rattle.crc.proofs.Own.{two, crc-own, crc-lt}
 use Rattle.crc.proofs.Parts.{bytes-take}
-use Rattle.protocol.specs.Fields.{bitsAt, withBits, bytesFrom, typeBytes, fieldsOf, field, renewed, setField}
+use Rattle.protocol.specs.Fields.{bitsAt, withBits, bytesFrom, typeBytes, fieldsOf, field, renewed}
 use Rattle.protocol.proofs.Bits.{read-parts, put-parts}
 
 -- thirty bytes
 pub record Thirty (s : List ℕ) : Type 0 where
   pub long : length s ≡ 30
   pub bytes : Bytes s
+
+pub zeros : Thirty (replicate 30 0)
+zeros = record { long = refl; bytes = λ k. zero-at 30 k }
+  where
+    zero-at : (n k : ℕ) → getD (replicate n 0) k 0 < 256
+    zero-at zero k = lit< tt
+    zero-at (suc n) zero = lit< tt
+    zero-at (suc n) (suc k) = zero-at n k
 
 -- ---- bytes
 

@@ -1,4 +1,4 @@
-// Header fields, frames, and gathered LICH parts.
+// Header fields, frames, and gathered LICH parts. Bytes 12 and 13 of a header, high byte first, are its type.
 ghost use mathlib.Core.Path.{_≡_};
 ghost use mathlib.Core.List.{_++_};
 ghost use Prim.Native.Nat.{_+_, _≤_, _<_};
@@ -168,6 +168,7 @@ impl LsfFrame {
         crc::m17_crc(&b)
     }
 
+    // The address in bytes 0 to 5.
     pub fn destination(self) -> address::Reading
         ensures { λ r. ⌜ r ≡ decodedOf (take 6 (self .bytes)) ⌝ }
     {
@@ -175,6 +176,7 @@ impl LsfFrame {
         address::decode_address(&b[0..6])
     }
 
+    // The address in bytes 6 to 11.
     pub fn source(self) -> address::Reading
         ensures { λ r. ⌜ r ≡ decodedOf (take 6 (drop 6 (self .bytes))) ⌝ }
     {
@@ -182,6 +184,7 @@ impl LsfFrame {
         address::decode_address(&b[6..12])
     }
 
+    // Type bit 0.
     pub fn mode(self) -> Mode
         ensures { λ r. ⌜ r ≡ modeOf (field modeBits (self .bytes)) ⌝ }
     {
@@ -192,6 +195,7 @@ impl LsfFrame {
         Mode::Stream
     }
 
+    // Type bits 1 and 2.
     pub fn data_type(self) -> DataType
         ensures { λ r. ⌜ r ≡ dataOf (field dataBits (self .bytes)) ⌝ }
     {
@@ -204,6 +208,7 @@ impl LsfFrame {
         }
     }
 
+    // Type bits 3 and 4.
     pub fn encryption_type(self) -> EncryptionType
         ensures { λ r. ⌜ r ≡ encryptionOf (field encryptionBits (self .bytes)) ⌝ }
     {
@@ -216,6 +221,7 @@ impl LsfFrame {
         }
     }
 
+    // Type bits 7 to 10.
     pub fn channel_access_number(self) -> u8
         ensures { λ r. ⌜ r ≡ field channelBits (self .bytes) ⌝ }
     {
@@ -223,6 +229,7 @@ impl LsfFrame {
         (type_of(b) / 128 % 16) as u8
     }
 
+    // Bytes 14 to 27.
     pub fn meta(self) -> [u8; 14]
         ensures { λ r. ⌜ r ≡ take 14 (drop 14 (self .bytes)) ⌝ }
     {
@@ -236,6 +243,7 @@ impl LsfFrame {
         m
     }
 
+    // Bytes 0 to 5 set.
     pub fn set_destination(mut self, address: Address, callsign: &[u8]) -> Made
         ensures { λ r. ⌜ r ≡ addressSet destinationBytes address (now (callsign .entry)) (self .bytes) ⌝ }
     {
@@ -253,6 +261,7 @@ impl LsfFrame {
         }
     }
 
+    // Bytes 6 to 11 set.
     pub fn set_source(mut self, address: Address, callsign: &[u8]) -> Made
         ensures { λ r. ⌜ r ≡ addressSet sourceBytes address (now (callsign .entry)) (self .bytes) ⌝ }
     {
@@ -270,6 +279,7 @@ impl LsfFrame {
         }
     }
 
+    // Type bit 0 set.
     pub fn set_mode(mut self, mode: Mode) -> LsfFrame
         ensures { λ r. ⌜ r ≡ header (setField modeBits (modeNumber mode) (self .bytes)) ⌝ }
     {
@@ -281,6 +291,7 @@ impl LsfFrame {
         self
     }
 
+    // Type bits 1 and 2 set.
     pub fn set_data_type(mut self, data_type: DataType) -> LsfFrame
         ensures { λ r. ⌜ r ≡ header (setField dataBits (dataNumber data_type) (self .bytes)) ⌝ }
     {
@@ -292,6 +303,7 @@ impl LsfFrame {
         self
     }
 
+    // Type bits 3 and 4 set.
     pub fn set_encryption_type(mut self, encryption_type: EncryptionType) -> LsfFrame
         ensures { λ r. ⌜ r ≡ header (setField encryptionBits (encryptionNumber «encryption_type») (self .bytes)) ⌝ }
     {
@@ -303,6 +315,7 @@ impl LsfFrame {
         self
     }
 
+    // Type bits 7 to 10 set.
     pub fn set_channel_access_number(mut self, number: u8) -> Made
         ensures { λ r. ⌜ r ≡ numberSet number (self .bytes) ⌝ }
     {
@@ -470,6 +483,7 @@ fn with_part(bytes: [u8; 30], at: usize, part: &[u8]) -> [u8; 30]
 }
 
 impl LichCollection {
+    // No part is set.
     pub fn new() -> LichCollection
         ensures { λ r. ⌜ r ≡ empty ⌝ }
     {
@@ -487,6 +501,7 @@ impl LichCollection {
         count(flags)
     }
 
+    // Part `counter` set.
     pub fn set_segment(mut self, counter: u8, part: &[u8]) -> Collected
         ensures { λ r. ⌜ r ≡ setOf counter (now (part .entry)) self ⌝ }
     {

@@ -1,7 +1,7 @@
 -- `protocol::count` meets its contract. The loop's invariant: the flags counted and those left make the whole. Assumes nothing.
 use mathlib.Core.Path.{_≡_}
 use mathlib.Core.Logic.{⊎-elim}
-use Prim.Native.Nat.{ℕ, _+_, _-_, _≤_}
+use Prim.Native.Nat.{_+_, _-_, _≤_}
 use lib.ListN.{length, drop}
 use Rattle.protocol.specs.Lich.{flagsSet}
 use Rattle.protocol.proofs.Flags.{none-left, next-set, next-clear}

@@ -1,7 +1,7 @@
 -- `protocol::with_address` meets its contract. The loop's invariant: the first `i` of the six bytes stand at their place. Assumes nothing.
 use mathlib.Core.Path.{_≡_, ap, _∙_}
-use mathlib.Core.List.{List, _++_}
-use Prim.Native.Nat.{ℕ, _+_, _-_, _<_, _≤_}
+use mathlib.Core.List.{List}
+use Prim.Native.Nat.{ℕ, _+_, _-_, _≤_}
 use lib.ListN.{length}
 use lib.Seq.{paste, paste-zero}
 use Rattle.laws.specs.Value.{valueOf}

@@ -1,9 +1,8 @@
 -- `protocol::with_part` meets its contract. The loop's invariant: the first `i` of the five bytes stand at their place. Assumes nothing.
-use mathlib.Core.Path.{_≡_, ap, _∙_}
-use mathlib.Core.List.{List, _++_}
-use Prim.Native.Nat.{ℕ, _+_, _-_, _<_, _≤_}
-use lib.ListN.{length, take, drop}
-use lib.Seq.{paste, paste-zero, take-all}
+use mathlib.Core.Path.{_≡_}
+use Prim.Native.Nat.{_-_, _≤_}
+use lib.ListN.{length}
+use lib.Seq.{paste, paste-zero}
 use Rattle.protocol.proofs.Pasted.{paste-more, paste-all}
 use native.Mathlib.Omega.{arith}
 use borrow.Author.Needs.{needs}

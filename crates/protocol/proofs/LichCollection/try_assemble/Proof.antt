@@ -1,5 +1,4 @@
 -- `protocol::LichCollection::try_assemble` meets its contract. Assumes nothing.
-use mathlib.Core.Path.{sym, _∙_}
 use borrow.Author.Tests.{eq-eqb, ne-eqb}
 use Rattle.protocol.specs.Lich.{flagsSet}
 use native.Mathlib.Omega.{arith}

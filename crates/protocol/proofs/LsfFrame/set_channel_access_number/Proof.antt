@@ -1,7 +1,5 @@
 -- `protocol::LsfFrame::set_channel_access_number` meets its contract. Assumes nothing.
 use mathlib.Core.Path.{ap, _∙_}
-use mathlib.Core.List.{List}
-use Prim.Native.Nat.{ℕ}
 use borrow.Author.Tests.{le-leb, lt-leb}
 use Rattle.refusal.specs.declared.Verdict.the-variants.{Done}
 use Rattle.protocol.specs.Header.{answered}

@@ -76,7 +76,7 @@ readBack (Reserved v) s = withoutCallsign (Read (Reserved v))
 readBack Broadcast s = withoutCallsign (Read Broadcast)
 
 -- what is answered with Done was judged good
-accepted : (a : Address) (s : List ℕ) → encodedOf a s .answer ≡ verdict.Done → (length s ≡ 9) × (writable a s ≡ true)
+pub accepted : (a : Address) (s : List ℕ) → encodedOf a s .answer ≡ verdict.Done → (length s ≡ 9) × (writable a s ≡ true)
 unfolding encodedOf
 accepted a s = go (eqb (length s) 9) (writable a s) refl
   where

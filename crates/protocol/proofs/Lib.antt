@@ -1,0 +1,13 @@
+pub mod Bits
+pub mod Pasted
+pub mod Whole
+pub mod Held
+pub mod TypeBits
+pub mod Written
+pub mod NewHeader
+pub mod Setters
+pub mod Flags
+pub mod Gathered
+pub mod Named
+pub mod Exactly
+pub mod Fresh

@@ -1,0 +1,6 @@
+pub mod Numbers
+pub mod Fields
+pub mod Header
+pub mod Lich
+pub mod Sequence
+pub mod When

@@ -522,9 +522,11 @@ impl LichCollection {
         let mut flags = self.set;
         flags[c] = true;
         let bytes = with_part(b, 5 * c, part);
+        self.bytes = bytes;
+        self.set = flags;
         Collected {
             answer: Verdict::Done,
-            collection: LichCollection { bytes, set: flags },
+            collection: self,
         }
     }
 

@@ -5,3 +5,4 @@ pub mod Xor
 pub mod Divide
 pub mod Number
 pub mod Padded
+pub mod Bytes

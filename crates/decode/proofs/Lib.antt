@@ -1,0 +1,11 @@
+pub mod Octets
+pub mod Words
+pub mod Pairs
+pub mod Masks
+pub mod ByLength
+pub mod Ranges
+pub mod SymbolsBack
+pub mod LichBack
+pub mod LichWhen
+pub mod When
+pub mod RoundTrip

@@ -1,0 +1,3 @@
+pub mod Lich
+pub mod Bodies
+pub mod Symbols

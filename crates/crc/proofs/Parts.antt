@@ -12,6 +12,7 @@ use lib.ListN.{length, getD, take, length-append}
 use lib.Seq.{take-suc}
 use Rattle.laws.specs.Division.{rem}
 use Rattle.laws.specs.Value.{valueOf, Bytes}
+use Rattle.laws.proofs.Bytes.{bytes-take, bytes-one}
 use Rattle.laws.proofs.Xor.{xor-assoc}
 use Rattle.laws.proofs.Divide.{shl-xor, rem-lt, rem-xor, rem-small, rem-shift}
 use Rattle.laws.proofs.Number.{value-lt, value-append, bits-of-bytes}
@@ -81,17 +82,6 @@ crc-byte r x hr hx =
     ∙ rem-xor 16 0x5935 poly-lt 8 (bitXor (r / 256) x * 2 ^ 16) (r % 256 * 256) (omega arith) (omega arith)
     ∙ ap (bitXor (rem 16 0x5935 8 (bitXor (r / 256) x * 2 ^ 16))) (rem-small 16 0x5935 poly-lt 8 (r % 256 * 256) (omega arith))
     ∙ xor-comm (rem 16 0x5935 8 (bitXor (r / 256) x * 2 ^ 16)) (r % 256 * 256)
-
--- the bytes of a front, and of one
-pub bytes-take : (n : ℕ) (s : List ℕ) → Bytes s → Bytes (take n s)
-bytes-take zero s h k = lit< tt
-bytes-take (suc n) [] h k = lit< tt
-bytes-take (suc n) (x ∷ s) h zero = h 0
-bytes-take (suc n) (x ∷ s) h (suc k) = bytes-take n s (λ j. h (suc j)) k
-
-bytes-one : (x : ℕ) → x < 256 → Bytes (x ∷ [])
-bytes-one x h zero = h
-bytes-one x h (suc k) = lit< tt
 
 -- one byte more of a list
 pub crc-more : (r : ℕ) (s : List ℕ) (i : ℕ) → r < 65536 → Bytes s → i < length s

@@ -1,4 +1,3 @@
-pub mod Octets
 pub mod Words
 pub mod Pairs
 pub mod Masks

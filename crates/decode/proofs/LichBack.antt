@@ -18,7 +18,7 @@ use Rattle.decode.specs.declared.Counted.the-variants.{Counter}
 use Rattle.decode.specs.declared.LichRead.{LichRead}
 use Rattle.decode.specs.Lich.{lichFrom, wordAt, lichReadOf}
 use Rattle.decode.proofs.Words.{value-three}
-use Rattle.decode.proofs.Octets.{in-bytes-are, bytes-append, bytes-one}
+use Rattle.laws.proofs.Bytes.{bytes-in-bytes, bytes-append, bytes-one}
 use Rattle.decode.proofs.ByLength.{all-read}
 
 -- value j of the four
@@ -35,7 +35,7 @@ twelve-lt v (suc (suc zero)) = omega arith
 twelve-lt v (suc (suc (suc j))) = omega arith
 
 golay-bytes : (d : ℕ) → d < 4096 → Bytes (golayBytes d)
-golay-bytes d h = in-bytes-are 3 (golay d) (golay-lt d h)
+golay-bytes d h = bytes-in-bytes 3 (golay d) (golay-lt d h)
 
 -- ---- the twelve bytes and their words
 

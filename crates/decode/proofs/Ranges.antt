@@ -37,7 +37,7 @@ use Rattle.decode.specs.declared.PacketRead.{PacketRead}
 use Rattle.decode.specs.Lich.{lichRefused, fourWords, wordAt, lichReadOf}
 use Rattle.decode.specs.Bodies.{unmasked, lsfBy, lsfReadOf, noStream, streamPart, streamBy, streamReadOf, noPacket, counterFrom, packetBy, packetReadOf}
 use Rattle.decode.specs.Symbols.{bodyFrom, lsfParsedOf, streamParsedOf, packetParsedOf}
-use Rattle.decode.proofs.Octets.{in-bytes-are, bytes-zero, bytes-take, bytes-drop}
+use Rattle.laws.proofs.Bytes.{bytes-in-bytes, bytes-zeros, bytes-take, bytes-drop}
 use Rattle.decode.proofs.Words.{data-lt}
 use Rattle.decode.proofs.ByLength.{lich-long, lsf-long, stream-long, packet-long}
 
@@ -53,11 +53,11 @@ decoded-thirty k rx = by-length (ℕ-discrete (length rx) (codedBytes k))
   where
     by-read : (o : Option (List Bool)) → Octets 30 (found o .bytes)
     by-read (some d) = record { long = length-bytes 30 d; bytes = bytes-are 30 d }
-    by-read none = record { long = refl; bytes = bytes-zero 30 }
+    by-read none = record { long = refl; bytes = bytes-zeros 30 }
 
     by-length : Dec (length rx ≡ codedBytes k) → Octets 30 (decodedOf k rx .bytes)
     by-length (yes l) = rw (decoded-long k rx l) (by-read (readOf (sendsIn k) (bitsIn k) (limitOf k) (bitsOf rx)))
-    by-length (no n) = rw (decoded-short k rx n) (record { long = refl; bytes = bytes-zero 30 })
+    by-length (no n) = rw (decoded-short k rx n) (record { long = refl; bytes = bytes-zeros 30 })
 
 -- ---- LICH
 
@@ -66,7 +66,7 @@ pub record LichRange (r : LichRead) : Type 0 where
   pub part : Octets 5 (r .part)
 
 no-lich-range : (why : Refusal) → LichRange (lichRefused why)
-no-lich-range why = record { counter = λ c e. let z : _≡_ {A = ℕ} 0 1 = cc in absurd (omega arith); part = record { long = refl; bytes = bytes-zero 5 } }
+no-lich-range why = record { counter = λ c e. let z : _≡_ {A = ℕ} 0 1 = cc in absurd (omega arith); part = record { long = refl; bytes = bytes-zeros 5 } }
 
 four-range : (a b c d : Reading) → ((x : ℕ) → a ≡ golay.Data x → x < 4096) → ((x : ℕ) → b ≡ golay.Data x → x < 4096) → ((x : ℕ) → c ≡ golay.Data x → x < 4096)
     → ((x : ℕ) → d ≡ golay.Data x → x < 4096) → LichRange (fourWords a b c d)
@@ -82,7 +82,7 @@ four-range (golay.Data x) (golay.Data y) (golay.Data z) (golay.Data w) ha hb hc 
       part =
           record {
             long = length-take-le 5 (inBytes 6 v) (omega (arith, length-in-bytes 6 v));
-            bytes = bytes-take 5 (inBytes 6 v) (in-bytes-are 6 v small);
+            bytes = bytes-take 5 (inBytes 6 v) (bytes-in-bytes 6 v small);
           };
     }
 
@@ -105,18 +105,18 @@ lsf-range body = by-length (ℕ-discrete (length body) 46)
   where
     by-answer : (v : Verdict) (b : List ℕ) → Octets 30 b → Octets 30 (lsfBy v b .frame .bytes)
     by-answer Done b o = o
-    by-answer (Refused why) b o = record { long = refl; bytes = bytes-zero 30 }
+    by-answer (Refused why) b o = record { long = refl; bytes = bytes-zeros 30 }
 
     by-length : Dec (length body ≡ 46) → Octets 30 (lsfReadOf body .frame .bytes)
     by-length (yes l) = rw (lsf-long body l) (by-answer (decodedOf Header (unmasked body) .answer) (decodedOf Header (unmasked body) .bytes) (decoded-thirty Header (unmasked body)))
-    by-length (no n) = rw (ne-eqb (length body) 46 n) (record { long = refl; bytes = bytes-zero 30 })
+    by-length (no n) = rw (ne-eqb (length body) 46 n) (record { long = refl; bytes = bytes-zeros 30 })
 
 -- through symbols
 pub lsf-parsed-range : (xs : List Float) → Octets 30 (lsfParsedOf xs .frame .bytes)
 unfolding lsfParsedOf
 lsf-parsed-range xs = elim (ℕ-discrete (length xs) 192) [
   | yes l ↦ rw (eq-eqb (length xs) 192 l) (lsf-range (bodyFrom xs))
-  | no n ↦ rw (ne-eqb (length xs) 192 n) (record { long = refl; bytes = bytes-zero 30 })
+  | no n ↦ rw (ne-eqb (length xs) 192 n) (record { long = refl; bytes = bytes-zeros 30 })
 ]
 
 -- ---- stream
@@ -131,9 +131,9 @@ no-stream-range : (why : Refusal) → StreamRange (noStream why)
 no-stream-range why =
     record {
       index = omega arith;
-      part = record { long = refl; bytes = bytes-zero 5 };
+      part = record { long = refl; bytes = bytes-zeros 5 };
       number = omega arith;
-      stream = record { long = refl; bytes = bytes-zero 16 };
+      stream = record { long = refl; bytes = bytes-zeros 16 };
     }
 
 pub stream-range : (body : List ℕ) → StreamRange (streamReadOf body)
@@ -184,7 +184,7 @@ pub record PacketRange (r : PacketRead) : Type 0 where
   pub payload : Octets 25 (r .frame .payload)
 
 no-packet-range : (why : Refusal) → PacketRange (noPacket why)
-no-packet-range why = record { number = omega arith; payload = record { long = refl; bytes = bytes-zero 25 } }
+no-packet-range why = record { number = omega arith; payload = record { long = refl; bytes = bytes-zeros 25 } }
 
 counter-range : (x : ℕ) → numberIn (counterFrom x) < 32
 counter-range x = by (leb 128 x)

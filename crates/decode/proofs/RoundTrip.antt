@@ -35,7 +35,7 @@ use Rattle.decode.specs.declared.PacketRead.{PacketRead}
 use Rattle.decode.specs.Lich.{lichReadOf}
 use Rattle.decode.specs.Bodies.{unmasked, lsfFrom, lsfReadOf, streamFrom, streamBy, streamReadOf, counterFrom, packetFrom, packetReadOf}
 use Rattle.decode.specs.Symbols.{lsfParsedOf, streamParsedOf, packetParsedOf}
-use Rattle.decode.proofs.Octets.{in-bytes-are, bytes-append, bytes-zero, bytes-one, bytes-take}
+use Rattle.laws.proofs.Bytes.{bytes-in-bytes, bytes-append, bytes-zeros, bytes-one, bytes-take}
 use Rattle.decode.proofs.Masks.{length-masked, masked-bytes, unmasked-masked}
 use Rattle.decode.proofs.ByLength.{lsf-long, stream-long, packet-long}
 use Rattle.decode.proofs.SymbolsBack.{length-frame, symbols-back}
@@ -108,7 +108,7 @@ module _ (index : ℕ) (part : List ℕ) (n : ℕ) (end : Bool) (s : List ℕ) (
 
   plain-bytes : Bytes plain-stream
   unfolding plain-stream marked
-  plain-bytes = bytes-append (inBytes 2 (n + endMark end)) s (in-bytes-are 2 (n + endMark end) (marked-is .0)) bytes
+  plain-bytes = bytes-append (inBytes 2 (n + endMark end)) s (bytes-in-bytes 2 (n + endMark end) (marked-is .0)) bytes
 
   front : List ℕ
   front = lichBytes index part
@@ -210,7 +210,7 @@ length-kept (FinalFrame size) s h long =
 
 kept-bytes : (c : PacketFrameCounter) (s : List ℕ) → Bytes s → Bytes (kept c s)
 kept-bytes (Frame index) s h = h
-kept-bytes (FinalFrame size) s h = bytes-append (take size s) (replicate (25 - size) 0) (bytes-take size s h) (bytes-zero (25 - size))
+kept-bytes (FinalFrame size) s h = bytes-append (take size s) (replicate (25 - size) 0) (bytes-take size s h) (bytes-zeros (25 - size))
 
 tag-is : (c : PacketFrameCounter) → countable c ≡ true → (tag c < 256) × (tag c % 4 ≡ 0) × (counterFrom (tag c) ≡ c)
 tag-is (Frame index) h =

@@ -1,10 +1,11 @@
 -- Lists of bytes: joined, cut, zeros, those of a number and of a table. Assumes nothing.
 use mathlib.Core.List.{List, [], _∷_, _++_}
-use Prim.Native.Nat.{ℕ, zero, suc, _%_, _^_, _<_}
+use Prim.Native.Nat.{ℕ, zero, suc, _+_, _%_, _^_, _<_}
 use native.Mathlib.Nat.{mod-lt, mul-comm, one-le-pow, pow-suc, div-lt-iff-lt-mul}
 use native.Mathlib.Omega.{arith}
 use lib.Dec.{lit<}
-use lib.ListN.{take, replicate}
+use lib.ListN.{take, drop, replicate}
+use lib.Seq.{getD-drop}
 use Rattle.laws.specs.Tabled.{valuesFrom, tabled}
 use Rattle.laws.specs.Value.{inBytes, Bytes}
 
@@ -22,6 +23,9 @@ bytes-take zero s h k = lit< tt
 bytes-take (suc n) [] h k = lit< tt
 bytes-take (suc n) (x ∷ s) h zero = h 0
 bytes-take (suc n) (x ∷ s) h (suc k) = bytes-take n s (λ j. h (suc j)) k
+
+pub bytes-drop : (n : ℕ) (s : List ℕ) → Bytes s → Bytes (drop n s)
+bytes-drop n s h k = rw (getD-drop n s k 0) (h (n + k))
 
 pub bytes-zeros : (n : ℕ) → Bytes (replicate n 0)
 bytes-zeros zero k = lit< tt

@@ -13,7 +13,7 @@ use Rattle.refusal.specs.declared.Verdict.the-variants.{Done}
 use Rattle.laws.specs.Value.{valueOf, inBytes}
 use Rattle.laws.proofs.Every.{every, every-at}
 use Rattle.laws.proofs.Number.{bytes-of-value}
-use Rattle.crc.proofs.Parts.{bytes-take}
+use Rattle.laws.proofs.Bytes.{bytes-take}
 use Rattle.address.specs.declared.Address.{Address}
 use Rattle.address.specs.Address.{addressValue, encodedOf, decodedOf}
 use Rattle.address.proofs.RoundTrip.{readBack, written-then-read}

@@ -11,7 +11,7 @@ use Rattle.laws.specs.Value.{valueOf, inBytes, Bytes}
 use Rattle.laws.proofs.Number.{value-lt, length-in-bytes, bytes-of-value, value-of-bytes, value-append, bits-of-bytes}
 use Rattle.crc.specs.Crc.{crc}
 use Rattle.crc.proofs.Own.{two, crc-own, crc-lt}
-use Rattle.crc.proofs.Parts.{bytes-take}
+use Rattle.laws.proofs.Bytes.{bytes-take}
 use Rattle.protocol.specs.Fields.{bitsAt, withBits, bytesFrom, typeBytes, fieldsOf, field, renewed}
 use Rattle.protocol.proofs.Bits.{read-parts, put-parts}
 

@@ -7,9 +7,10 @@ use lib.Bits.{bitXor, xor-lt}
 use lib.ListN.{length, getD, take}
 use lib.Seq.{take-all}
 use Rattle.laws.specs.Value.{Bytes}
+use Rattle.laws.proofs.Bytes.{bytes-take}
 use Rattle.laws.proofs.Values.{tabled-at}
 use Rattle.crc.specs.Crc.{byteRemainder, crcFrom}
-use Rattle.crc.proofs.Parts.{crc-nothing, crc-from-lt, crc-more, bytes-take}
+use Rattle.crc.proofs.Parts.{crc-nothing, crc-from-lt, crc-more}
 use borrow.Author.Needs.{needs}
 use Rattle.crc.proofs.update.Statement.{statement}
 use Rattle.crc.proofs.update.Tie as tie

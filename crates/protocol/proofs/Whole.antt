@@ -11,7 +11,7 @@ use Rattle.laws.specs.Value.{valueOf, inBytes, Bytes}
 use Rattle.laws.proofs.Number.{value-lt, length-in-bytes, bytes-of-value, value-of-bytes, value-append, bits-of-bytes}
 use Rattle.crc.specs.Crc.{crc}
 use Rattle.crc.proofs.Own.{two, crc-own, crc-lt}
-use Rattle.laws.proofs.Bytes.{bytes-take}
+use Rattle.laws.proofs.Bytes.{bytes-append, bytes-take, bytes-in-bytes}
 use Rattle.protocol.specs.Fields.{bitsAt, withBits, bytesFrom, typeBytes, fieldsOf, field, renewed}
 use Rattle.protocol.proofs.Bits.{read-parts, put-parts}
 
@@ -34,18 +34,6 @@ pub bytes-drop : (n : ℕ) (s : List ℕ) → Bytes s → Bytes (drop n s)
 bytes-drop zero s h k = h k
 bytes-drop (suc n) [] h k = lit< tt
 bytes-drop (suc n) (x ∷ s) h k = bytes-drop n s (λ j. h (suc j)) k
-
-bytes-append : (s t : List ℕ) → Bytes s → Bytes t → Bytes (s ++ t)
-bytes-append [] t hs ht k = ht k
-bytes-append (x ∷ s) t hs ht zero = hs 0
-bytes-append (x ∷ s) t hs ht (suc k) = bytes-append s t (λ j. hs (suc j)) ht k
-
--- a number's bytes are bytes
-pub in-bytes-are : (n v : ℕ) → v < 256 ^ n → Bytes (inBytes n v)
-unfolding inBytes
-in-bytes-are zero v h k = lit< tt
-in-bytes-are (suc n) v h zero = let b : v < 256 * 256 ^ n = omega (arith, pow-suc 256 n) in div-lt-iff-lt-mul (one-le-pow n 256 (lit< tt)) .1 b
-in-bytes-are (suc n) v h (suc k) = in-bytes-are n (v % 256 ^ n) (mod-lt v (one-le-pow n 256 (lit< tt))) k
 
 two-bytes : (n : ℕ) → inBytes 2 n ≡ two n
 unfolding inBytes
@@ -154,7 +142,7 @@ module _ (s : List ℕ) (thirty : Thirty s) where
 
 module _ (n : ℕ) (small : n < 2 ^ 224) where
   front-bytes : Bytes (inBytes 28 n)
-  front-bytes = in-bytes-are 28 n small
+  front-bytes = bytes-in-bytes 28 n small
 
   pub renewed-thirty : Thirty (renewed n)
   unfolding renewed
@@ -162,7 +150,7 @@ module _ (n : ℕ) (small : n < 2 ^ 224) where
       let c = crc (inBytes 28 n) in
       record {
         long = length-append (inBytes 28 n) (inBytes 2 c) ∙ ap₂ (λ (x y : ℕ). x + y) (length-in-bytes 28 n) (length-in-bytes 2 c);
-        bytes = bytes-append (inBytes 28 n) (inBytes 2 c) front-bytes (in-bytes-are 2 c (crc-lt (inBytes 28 n) front-bytes));
+        bytes = bytes-append (inBytes 28 n) (inBytes 2 c) front-bytes (bytes-in-bytes 2 c (crc-lt (inBytes 28 n) front-bytes));
       }
 
   pub renewed-valid : crc (renewed n) ≡ 0

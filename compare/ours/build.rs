@@ -1,7 +1,40 @@
-//! Links the static library that `rt staticlib m17` has written.
+//! Links the static library that `rt staticlib m17` has written. It is for x86-64: for another processor it is linked
+//! into a bridge instead, a program that an emulator runs.
+use std::{env, fs, path::PathBuf, process::Command};
+
 fn main() {
     let folder = concat!(env!("CARGO_MANIFEST_DIR"), "/../../target/staticlib");
-    println!("cargo:rustc-link-search=native={folder}");
-    println!("cargo:rustc-link-lib=static=m17");
     println!("cargo:rerun-if-changed={folder}/libm17.a");
+    if env::var("CARGO_CFG_TARGET_ARCH").unwrap() == "x86_64" {
+        println!("cargo:rustc-link-search=native={folder}");
+        println!("cargo:rustc-link-lib=static=m17");
+    } else {
+        bridge(folder);
+    }
+}
+
+fn bridge(folder: &str) {
+    for file in ["bridge.c", "src/c.rs"] {
+        println!("cargo:rerun-if-changed={file}");
+    }
+    let out = PathBuf::from(env::var_os("OUT_DIR").unwrap());
+    fs::write(out.join("functions.h"), functions()).unwrap();
+    let program = out.join("bridge");
+    let done = Command::new("clang")
+        .args(["--target=x86_64-linux-gnu", "-O2", "-ffreestanding", "-fno-stack-protector", "-fuse-ld=lld"])
+        .args(["-nostdlib", "-static", "-no-pie", "bridge.c", "-I"])
+        .arg(&out)
+        .arg(format!("{folder}/libm17.a"))
+        .arg("-o")
+        .arg(&program)
+        .status();
+    assert!(done.is_ok_and(|status| status.success()), "the bridge to the static library is not built");
+    println!("cargo:rustc-env=BRIDGE={}", program.display());
+}
+
+/// The names of the functions that `c.rs` declares, in its order, for the bridge's table.
+fn functions() -> String {
+    let declared = fs::read_to_string("src/c.rs").unwrap();
+    let names = declared.lines().filter_map(|line| line.trim().strip_prefix("fn m17_")?.split('(').next());
+    names.map(|name| format!("F(m17_{name})\n")).collect()
 }

@@ -29,16 +29,7 @@ fn brief(bytes: &[u8]) -> String {
 }
 
 pub fn all() -> Vec<Outside> {
-    let parts = [
-        bits(),
-        interleave(),
-        #[cfg(feature = "address")]
-        callsigns(),
-        #[cfg(feature = "address")]
-        reserved_values(),
-        #[cfg(feature = "fec")]
-        fec(),
-    ];
+    let parts = [bits(), interleave(), callsigns(), reserved_values(), fec()];
     parts.into_iter().flatten().collect()
 }
 
@@ -81,7 +72,6 @@ fn interleave() -> Vec<Outside> {
 }
 
 /// Beside what the Rust writes stands what it reads from that.
-#[cfg(feature = "address")]
 fn callsigns() -> Vec<Outside> {
     use oracle::address::{encode_address, Address, Callsign};
     let of = |input, nine: &[u8; 9], written| {
@@ -106,7 +96,6 @@ fn callsigns() -> Vec<Outside> {
     ]
 }
 
-#[cfg(feature = "address")]
 fn reserved_values() -> Vec<Outside> {
     use oracle::address::{encode_address, Address};
     let of = |input, value, written| {
@@ -128,7 +117,6 @@ fn reserved_values() -> Vec<Outside> {
     ]
 }
 
-#[cfg(feature = "address")]
 fn written_and_read(six: [u8; 6]) -> String {
     use oracle::address::{decode_address, Address, Callsign};
     let read = match decode_address(six) {
@@ -138,7 +126,6 @@ fn written_and_read(six: [u8; 6]) -> String {
     format!("{}, which reads as {read}", hex(&six))
 }
 
-#[cfg(feature = "fec")]
 fn fec() -> Vec<Outside> {
     use oracle::{fec_decode, fec_encode, Kind};
     let write = |input, data: &[u8], written| {

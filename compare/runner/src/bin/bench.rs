@@ -63,7 +63,6 @@ fn golay_word(random: &mut Random, flips: u32) -> Vec<u8> {
     (cai_golay::extended::encode(random.below(4096) as u16) ^ flipped).to_be_bytes().to_vec()
 }
 
-#[cfg(feature = "fec")]
 fn fec(bench: &mut Bench) {
     use oracle::Kind;
     use runner::{code::lengths, frames};
@@ -94,7 +93,6 @@ fn main() {
     println!("nanoseconds a call, best of {} rounds; ratio: ours to the Rust's", bench.rounds);
     println!("{:28} {:>7} {:>10} {:>10} {:>7}", "name", "inputs", "the Rust", "ours", "ratio");
     leaves(&mut bench);
-    #[cfg(feature = "fec")]
     fec(&mut bench);
     println!("* a stand-in for the outside crate does the work on the Rust's side");
 }

@@ -30,14 +30,8 @@ fn asked() -> Result<Asked, String> {
 }
 
 fn comparisons() -> Vec<Comparison> {
-    let parts = [
-        Vec::from(leaves::ALL),
-        #[cfg(feature = "address")]
-        Vec::from(runner::address::ALL),
-        Vec::from(words::ALL),
-        #[cfg(feature = "fec")]
-        Vec::from(runner::fec::ALL),
-    ];
+    let parts =
+        [Vec::from(leaves::ALL), Vec::from(runner::address::ALL), Vec::from(words::ALL), Vec::from(runner::fec::ALL)];
     parts.into_iter().flatten().collect()
 }
 

@@ -49,7 +49,7 @@ pub struct Address {
 }
 
 /// An address in the lent memory of a call.
-fn heard(call: impl FnOnce(*mut u8, *mut u64, *mut u8, usize) -> u8) -> Result<Address, Refused> {
+pub(crate) fn heard(call: impl FnOnce(*mut u8, *mut u64, *mut u8, usize) -> u8) -> Result<Address, Refused> {
     let before = Address { kind: MARK, value: MARK as u64, callsign: [MARK; 9] };
     let mut out = before;
     let said = call(&mut out.kind, &mut out.value, out.callsign.as_mut_ptr(), 9);

@@ -4,9 +4,17 @@
 mod bridge;
 mod c;
 
+mod bodies;
+mod collection;
+mod header;
 mod leaves;
+mod symbols;
 
+pub use bodies::*;
+pub use collection::*;
+pub use header::*;
 pub use leaves::*;
+pub use symbols::*;
 
 /// Whether the library's functions run under an emulator, where a time says nothing.
 pub const EMULATED: bool = cfg!(not(target_arch = "x86_64"));

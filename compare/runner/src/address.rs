@@ -1,10 +1,10 @@
 //! The comparisons of addresses: read and written back, and written.
 use crate::comparison::{Comparison, Said, Stop, Take, Wanted};
-use crate::leaves::shown;
+use crate::leaves::{called_for, shown};
 use crate::observe::hex;
 use crate::random::Random;
 use oracle::address::{self, Callsign, ALPHABET};
-use ours::{refused, Address};
+use ours::{refused, Address, Refused};
 
 pub const ALL: [Comparison; 2] = [
     Comparison {
@@ -51,7 +51,7 @@ fn addresses(random: &mut Random, wanted: &Wanted, take: Take) -> Result<(), Sto
 }
 
 /// The Rust's address in the numbers of the library.
-fn numbered(address: &address::Address) -> Address {
+pub fn numbered(address: &address::Address) -> Address {
     let (kind, value, callsign) = match address {
         address::Address::Invalid => (0, 0, [0; 9]),
         address::Address::Callsign(Callsign(callsign)) => (1, 0, *callsign),
@@ -149,40 +149,66 @@ fn to_write(random: &mut Random, wanted: &Wanted, take: Take) -> Result<(), Stop
     Ok(())
 }
 
-/// The characters are looked at only for a callsign, but there have to be nine of them.
-/// Shared with the Rust: invalid, broadcast, callsigns of the alphabet that are not all spaces, and reserved values
-/// of their range. Other callsigns and values the Rust writes as something, and ours refuses with 6; a kind that is
-/// none of the four cannot be said in the Rust, and ours refuses it with 2.
 fn write(input: &[u8]) -> Said {
     let (kind, value) = (input[0], u64::from_be_bytes(input[1..9].try_into().unwrap()));
     let callsign = &input[9..];
     let ours = ours::encode_address(kind, value, callsign);
-    let rust = match (<[u8; 9]>::try_from(callsign), kind) {
-        (Err(_), _) => Err(refused(1)),
-        (Ok(_), 0) => Ok(address::Address::Invalid),
-        (Ok(nine), 1) if readable(&nine) => Ok(address::Address::Callsign(Callsign(nine))),
-        (Ok(_), 2) if (CALLSIGNS_END..BROADCAST).contains(&value) => Ok(address::Address::Reserved(value)),
-        (Ok(_), 3) => Ok(address::Address::Broadcast),
-        (Ok(_), 1 | 2) => Err(refused(6)),
-        (Ok(_), _) => Err(refused(2)),
-    };
-    let rust = rust.map(|address| address::encode_address(&address));
-    if rust != ours {
-        let show = |bytes: &[u8; 6]| hex(bytes);
-        let rust = match rust {
-            Ok(bytes) => show(&bytes),
-            Err(said) => format!("(refusal {} is called for)", said.number),
-        };
-        return Said::Different { rust, ours: shown(&ours, show) };
-    }
-    if rust.is_ok() {
-        Said::Same { tied: false }
-    } else {
-        Said::Refused
+    let rust = shared(kind, value, callsign).map(|address| address::encode_address(&address));
+    called_for(rust, ours, |bytes| hex(bytes))
+}
+
+/// The address as the Rust has it, or the refusal that is called for. The characters are looked at only for a callsign,
+/// but there have to be nine of them.
+/// Shared with the Rust: invalid, broadcast, callsigns of the alphabet that are not all spaces, and reserved values
+/// of their range. Other callsigns and values the Rust writes as something, and ours refuses with 6; a kind that is
+/// none of the four cannot be said in the Rust, and ours refuses it with 2.
+pub fn shared(kind: u8, value: u64, callsign: &[u8]) -> Result<address::Address, Refused> {
+    let nine = <[u8; 9]>::try_from(callsign).map_err(|_| refused(1))?;
+    match kind {
+        0 => Ok(address::Address::Invalid),
+        1 if readable(&nine) => Ok(address::Address::Callsign(Callsign(nine))),
+        2 if (CALLSIGNS_END..BROADCAST).contains(&value) => Ok(address::Address::Reserved(value)),
+        3 => Ok(address::Address::Broadcast),
+        1 | 2 => Err(refused(6)),
+        _ => Err(refused(2)),
     }
 }
 
 fn readable(callsign: &[u8; 9]) -> bool {
     let known = callsign.iter().all(|byte| ALPHABET.contains(&byte.to_ascii_uppercase()));
     known && callsign.iter().any(|&byte| byte != b' ')
+}
+
+/// An address of the shared domain: callsigns of either case, with and without spaces after them, the most often.
+pub fn any_shared(random: &mut Random) -> Address {
+    let mut callsign = [b' '; 9];
+    let len = 1 + random.below(9);
+    for byte in &mut callsign[..len] {
+        *byte = ALPHABET[1 + random.below(39)];
+        if random.below(3) == 0 {
+            byte.make_ascii_lowercase();
+        }
+    }
+    let reserved = CALLSIGNS_END + random.number() % (BROADCAST - CALLSIGNS_END);
+    match random.below(8) {
+        0 => Address { kind: 0, value: random.number(), callsign },
+        1 => Address { kind: 2, value: reserved, callsign },
+        2 => Address { kind: 3, value: random.number(), callsign },
+        _ => Address { kind: 1, value: random.number(), callsign },
+    }
+}
+
+/// An address outside of it: a foreign byte, nothing but spaces, a value out of its range, a kind that is none.
+pub fn any_refused(random: &mut Random) -> Address {
+    let mut given = Address { kind: 1, ..any_shared(random) };
+    match random.below(4) {
+        0 => given.callsign[random.below(9)] = [0, b'_', b'@', b'[', b'`', b'{', b':', 0x7F, 0xFF][random.below(9)],
+        1 => given.callsign = [b' '; 9],
+        2 => {
+            (given.kind, given.value) =
+                (2, [random.number() % CALLSIGNS_END, random.number() | BROADCAST][random.below(2)])
+        }
+        _ => given.kind = 4 + random.below(252) as u8,
+    }
+    given
 }

@@ -9,6 +9,11 @@ pub enum Said {
     },
     /// Ours refused where the document says so.
     Refused,
+    /// The two part in the way that docs/DIFFERENCES.md says.
+    Known {
+        rust: String,
+        ours: String,
+    },
     Different {
         rust: String,
         ours: String,
@@ -35,6 +40,11 @@ impl Wanted {
     pub fn many(&self, usual: usize) -> usize {
         self.count.unwrap_or(usual)
     }
+
+    /// A usual number, and another for `--full`.
+    pub fn many_or(&self, usual: usize, full: usize) -> usize {
+        self.many(if self.full { full } else { usual })
+    }
 }
 
 /// Said to a source of inputs that is to give no more.
@@ -60,20 +70,28 @@ pub struct Tally {
     pub answered: u64,
     pub refused: u64,
     pub ties: u64,
+    pub known: u64,
 }
 
-/// The smallest input found that shows a difference.
+/// The smallest input found on which the two sides part.
 pub struct Difference {
     pub input: Vec<u8>,
     pub rust: String,
     pub ours: String,
 }
 
+/// What a comparison's run has shown.
+pub struct Ran {
+    pub tally: Tally,
+    pub difference: Option<Difference>,
+    pub known: Option<Difference>,
+}
+
 impl Comparison {
     /// Runs until the inputs end or a difference shows.
-    pub fn run(&self, random: &mut Random, wanted: &Wanted) -> (Tally, Option<Difference>) {
+    pub fn run(&self, random: &mut Random, wanted: &Wanted) -> Ran {
         let mut tally = Tally::default();
-        let mut found = None;
+        let (mut found, mut known) = (None, None);
         let mut take = |input: &[u8]| {
             tally.inputs += 1;
             match (self.check)(input) {
@@ -82,6 +100,10 @@ impl Comparison {
                     tally.ties += tied as u64;
                 }
                 Said::Refused => tally.refused += 1,
+                Said::Known { rust, ours } => {
+                    tally.known += 1;
+                    known.get_or_insert(Difference { input: input.to_vec(), rust, ours });
+                }
                 Said::Different { rust, ours } => {
                     found = Some(Difference { input: input.to_vec(), rust, ours });
                     return Err(Stop);
@@ -90,19 +112,29 @@ impl Comparison {
             Ok(())
         };
         let _ = (self.inputs)(random, wanted, &mut take);
-        (tally, found.map(|difference| self.smaller(difference)))
+        let difference = found.map(|found| {
+            self.smaller(found, |said| match said {
+                Said::Different { rust, ours } => Some((rust, ours)),
+                _ => None,
+            })
+        });
+        let known = known.map(|known| {
+            self.smaller(known, |said| match said {
+                Said::Known { rust, ours } => Some((rust, ours)),
+                _ => None,
+            })
+        });
+        Ran { tally, difference, known }
     }
 
-    /// Cuts bytes out and brings them towards zero for as long as a difference remains.
-    fn smaller(&self, mut found: Difference) -> Difference {
+    /// Cuts bytes out and brings them towards zero for as long as the two sides part in the way that is looked for.
+    fn smaller(&self, mut found: Difference, parting: fn(Said) -> Option<(String, String)>) -> Difference {
         let mut tries = 100_000;
         loop {
             let smaller = candidates(&found.input, self.shortest).take(tries).find_map(|input| {
                 tries -= 1;
-                match (self.check)(&input) {
-                    Said::Different { rust, ours } => Some(Difference { input, rust, ours }),
-                    _ => None,
-                }
+                let (rust, ours) = parting((self.check)(&input))?;
+                Some(Difference { input, rust, ours })
             });
             match smaller {
                 Some(smaller) => found = smaller,

@@ -44,28 +44,8 @@ fn encode(kind: Kind, input: &[u8]) -> Said {
     same(rust, ours::fec_encode(kind as u8, input), |said| shown(said, |bytes| hex(bytes)))
 }
 
-/// A mix in which about a third is made to tie.
 fn received(kind: Kind, random: &mut Random, wanted: &Wanted, take: Take) -> Result<(), Stop> {
-    for turn in 0..wanted.many(50_000) {
-        let frame = match turn % 10 {
-            0 => frames::clean(kind, random),
-            1 | 2 => {
-                let flips = 1 + random.below(8);
-                frames::flipped(kind, random, flips)
-            }
-            3 => {
-                let flips = 5 + random.below(4);
-                frames::flipped(kind, random, flips)
-            }
-            4 => frames::burst(kind, random),
-            5 => frames::free_tail(kind, random),
-            6 | 7 => frames::halfway(kind, random, false),
-            8 => frames::halfway(kind, random, true),
-            _ => frames::any(kind, random),
-        };
-        take(&frame.to_bytes())?;
-    }
-    Ok(())
+    (0..wanted.many(50_000)).try_for_each(|turn| take(&frames::of_turn(kind, random, turn).to_bytes()))
 }
 
 /// The Rust, ours, and the document's nearest word as `code` reads it have to agree.

@@ -111,3 +111,23 @@ pub fn halfway(kind: Kind, random: &mut Random, at_end: bool) -> Frame {
         return frame;
     }
 }
+
+/// A mix, ten turns long, in which about a third is made to tie.
+pub fn of_turn(kind: Kind, random: &mut Random, turn: usize) -> Frame {
+    match turn % 10 {
+        0 => clean(kind, random),
+        1 | 2 => {
+            let flips = 1 + random.below(8);
+            flipped(kind, random, flips)
+        }
+        3 => {
+            let flips = 5 + random.below(4);
+            flipped(kind, random, flips)
+        }
+        4 => burst(kind, random),
+        5 => free_tail(kind, random),
+        6 | 7 => halfway(kind, random, false),
+        8 => halfway(kind, random, true),
+        _ => any(kind, random),
+    }
+}

@@ -80,6 +80,18 @@ fn refusal<T: PartialEq>(number: u8, ours: Result<T, Refused>, show: impl Fn(&T)
     }
 }
 
+/// The Rust's answer, or the refusal that the document calls for where the Rust cannot be asked.
+pub fn called_for<T: PartialEq>(
+    wanted: Result<T, Refused>,
+    ours: Result<T, Refused>,
+    show: impl Fn(&T) -> String,
+) -> Said {
+    match wanted {
+        Ok(rust) => same(Ok(rust), ours, |said| shown(said, &show)),
+        Err(said) => refusal(said.number, ours, show),
+    }
+}
+
 /// An answer, or what was refused.
 pub fn shown<T>(ours: &Result<T, Refused>, show: impl Fn(&T) -> String) -> String {
     match ours {

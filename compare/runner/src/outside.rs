@@ -3,6 +3,9 @@
 use crate::leaves::shown;
 use crate::observe::{answer, hex};
 
+mod frames;
+mod header;
+
 pub struct Outside {
     pub input: &'static str,
     pub rust: String,
@@ -29,7 +32,17 @@ fn brief(bytes: &[u8]) -> String {
 }
 
 pub fn all() -> Vec<Outside> {
-    let parts = [bits(), interleave(), callsigns(), reserved_values(), fec()];
+    let parts = [
+        bits(),
+        interleave(),
+        callsigns(),
+        reserved_values(),
+        fec(),
+        header::data_types(),
+        header::refused(),
+        frames::written(),
+        frames::read(),
+    ];
     parts.into_iter().flatten().collect()
 }
 

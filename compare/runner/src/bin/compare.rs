@@ -1,7 +1,7 @@
 //! compare [--seed N] [--count N] [--full] [NAME...]: runs each comparison, or those whose name begins so.
-use runner::comparison::{Comparison, Wanted};
+use runner::comparison::{Comparison, Ran, Wanted};
 use runner::random::Random;
-use runner::{leaves, observe, outside, words};
+use runner::{address, collection, fec, header, leaves, lich, observe, outside, parse, words, write};
 use std::process::ExitCode;
 
 struct Asked {
@@ -30,8 +30,17 @@ fn asked() -> Result<Asked, String> {
 }
 
 fn comparisons() -> Vec<Comparison> {
-    let parts =
-        [Vec::from(leaves::ALL), Vec::from(runner::address::ALL), Vec::from(words::ALL), Vec::from(runner::fec::ALL)];
+    let parts = [
+        Vec::from(leaves::ALL),
+        Vec::from(address::ALL),
+        Vec::from(words::ALL),
+        Vec::from(fec::ALL),
+        Vec::from(header::ALL),
+        Vec::from(collection::ALL),
+        Vec::from(lich::ALL),
+        Vec::from(write::ALL),
+        Vec::from(parse::ALL),
+    ];
     parts.into_iter().flatten().collect()
 }
 
@@ -47,19 +56,27 @@ fn main() -> ExitCode {
     let chosen = |name: &str| names.is_empty() || names.iter().any(|given| name.starts_with(given.as_str()));
     let mut ran = 0;
     println!("seed {seed}");
-    println!("{:18} {:>9} {:>9} {:>9} {:>7} {:>11}", "name", "inputs", "answered", "refused", "ties", "differences");
+    println!(
+        "{:18} {:>9} {:>9} {:>9} {:>7} {:>7} {:>11}",
+        "name", "inputs", "answered", "refused", "ties", "known", "differences"
+    );
     for comparison in comparisons().iter().filter(|comparison| chosen(comparison.name)) {
         ran += 1;
-        let (tally, difference) = comparison.run(&mut Random::new(seed), &wanted);
+        let Ran { tally, difference, known } = comparison.run(&mut Random::new(seed), &wanted);
         let ties = if comparison.counts_ties { tally.ties.to_string() } else { "-".into() };
         println!(
-            "{:18} {:>9} {:>9} {:>9} {ties:>7} {:>11}",
+            "{:18} {:>9} {:>9} {:>9} {ties:>7} {:>7} {:>11}",
             comparison.name,
             tally.inputs,
             tally.answered,
             tally.refused,
+            tally.known,
             difference.is_some() as u8
         );
+        if let Some(known) = known {
+            println!("  known, the smallest input found: {}", observe::hex(&known.input));
+            println!("  the Rust: {}; ours: {}", known.rust, known.ours);
+        }
         if let Some(difference) = difference {
             println!("\nThe smallest input found on which {} differs ({}):", comparison.name, comparison.layout);
             println!("  {}", observe::hex(&difference.input));

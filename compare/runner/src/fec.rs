@@ -45,7 +45,7 @@ fn encode(kind: Kind, input: &[u8]) -> Said {
 }
 
 fn received(kind: Kind, random: &mut Random, wanted: &Wanted, take: Take) -> Result<(), Stop> {
-    (0..wanted.many(50_000)).try_for_each(|turn| take(&frames::of_turn(kind, random, turn).to_bytes()))
+    (0..wanted.many_or(8_000, 50_000)).try_for_each(|turn| take(&frames::of_turn(kind, random, turn).to_bytes()))
 }
 
 /// The Rust, ours, and the document's nearest word as `code` reads it have to agree.

@@ -35,7 +35,7 @@ pub const ALL: [Comparison; 8] = [
         layout: "the bytes; each of seven places is tried as the place where they are parted",
         shortest: Some(0),
         counts_ties: false,
-        inputs: messages,
+        inputs: messages_to_part,
         check: crc_update,
     },
     Comparison {
@@ -178,6 +178,18 @@ fn messages(random: &mut Random, wanted: &Wanted, take: Take) -> Result<(), Stop
     Ok(())
 }
 
+/// Each is asked of fourteen times, so there are fewer of them.
+fn messages_to_part(random: &mut Random, wanted: &Wanted, take: Take) -> Result<(), Stop> {
+    for len in 0..50 {
+        take(&random.bytes(len))?;
+    }
+    for _ in 0..wanted.many_or(2_000, 20_000) {
+        let len = random.below(901);
+        take(&random.bytes(len))?;
+    }
+    Ok(())
+}
+
 fn crc(input: &[u8]) -> Said {
     same(oracle::crc::m17_crc(input), ours::crc(input), |crc| format!("{crc:04X}"))
 }
@@ -254,13 +266,14 @@ fn golay_encode(input: &[u8]) -> Said {
     refusal(2, ours, show)
 }
 
-/// All words with `--full`; else random ones and all within four flips of a few codewords.
+/// All words with `--full`; else random ones and all within four flips of a codeword.
 fn words(random: &mut Random, wanted: &Wanted, take: Take) -> Result<(), Stop> {
     let mut word = |word: u32| take(&word.to_be_bytes());
     if wanted.full {
         (0..1 << 24).try_for_each(&mut word)?;
     }
-    for data in [0, 1, random.below(4096) as u16, 0xFFF] {
+    let data = [random.below(4096) as u16, 0, 1, 0xFFF];
+    for &data in &data[..if wanted.full { 4 } else { 1 }] {
         let codeword = golay::encode(data);
         // A flip of bit 24 flips nothing, so that four places also stand for fewer.
         for i in 0..25 {
@@ -274,7 +287,7 @@ fn words(random: &mut Random, wanted: &Wanted, take: Take) -> Result<(), Stop> {
             }
         }
     }
-    for _ in 0..wanted.many(200_000) {
+    for _ in 0..wanted.many_or(20_000, 200_000) {
         word(random.number() as u32 >> 8)?;
     }
     for _ in 0..1000 {

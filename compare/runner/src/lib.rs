@@ -1,6 +1,7 @@
 //! What the two programs share: inputs, the comparisons, and a reading of document 01's nearest word and symbols.
 
 pub mod address;
+pub mod bodies;
 pub mod code;
 pub mod collection;
 pub mod comparison;

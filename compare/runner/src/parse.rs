@@ -1,4 +1,5 @@
 //! The comparisons of read frames: symbols to fields, by way of the body too.
+use crate::bodies::on_air;
 use crate::code::lengths;
 use crate::comparison::{Comparison, Said, Stop, Take, Wanted};
 use crate::frames;
@@ -28,7 +29,7 @@ const fn reading(name: &'static str, inputs: Inputs, check: fn(&[u8]) -> Said) -
 fn received(kind: Kind, random: &mut Random, wanted: &Wanted, take: Take) -> Result<(), Stop> {
     let special = special();
     for turn in 0..wanted.many_or(4_000, 50_000) {
-        let mut symbols = symbols::symbols(kind, &on_air(coded(kind, random, turn)));
+        let mut symbols = symbols::symbols(kind, &on_air(&coded(kind, random, turn)));
         match turn / 10 % 8 {
             0 | 1 => (),
             // Other values that are read as the same pairs.
@@ -70,12 +71,6 @@ fn coded(kind: Kind, random: &mut Random, turn: usize) -> Vec<u8> {
         _ => lich::flipped(random, [0; 4]),
     };
     [lich, part].concat()
-}
-
-fn on_air(coded: Vec<u8>) -> Body {
-    let mut body = oracle::interleave(&coded);
-    oracle::random_xor(&mut body);
-    body
 }
 
 /// The Rust's answer beside ours from the symbols and from their body, which are compared on the way.

@@ -137,18 +137,22 @@ fn lsf(input: &[u8]) -> Said {
 }
 
 fn stream(input: &[u8]) -> Said {
-    let frame = Stream {
-        lich_idx: input[0],
-        lich_part: input[1..6].try_into().unwrap(),
-        frame_number: u16::from_be_bytes([input[6], input[7]]),
-        end_of_stream: input[8],
-        stream_data: input[9..].try_into().unwrap(),
-    };
+    let frame = stream_of(input);
     let wanted = match frame {
         Stream { lich_idx: 0..6, frame_number: 0..0x8000, .. } => Ok(oracle::encode_stream(&for_rust(&frame))),
         _ => Err(refused(2)),
     };
     compared(Kind::Stream, wanted, ours::encode_stream(&frame), ours::write_stream(&frame))
+}
+
+pub fn stream_of(input: &[u8]) -> Stream {
+    Stream {
+        lich_idx: input[0],
+        lich_part: input[1..6].try_into().unwrap(),
+        frame_number: u16::from_be_bytes([input[6], input[7]]),
+        end_of_stream: input[8],
+        stream_data: input[9..].try_into().unwrap(),
+    }
 }
 
 pub fn for_rust(frame: &Stream) -> StreamFrame {

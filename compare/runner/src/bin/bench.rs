@@ -1,5 +1,9 @@
 //! bench [--seed N] [--rounds N]: times the Rust's functions and ours in turn on the same inputs.
-use runner::random::Random;
+use oracle::protocol::{LsfFrame, PacketFrame, PacketFrameCounter, StreamFrame};
+use oracle::Kind;
+use runner::code::lengths;
+use runner::{bodies, frames, lich, random::Random, symbols::symbols, write};
+use std::borrow::Borrow;
 use std::hint::black_box;
 use std::time::Instant;
 
@@ -13,7 +17,11 @@ struct Bench {
 }
 
 impl Bench {
-    fn race<A, B>(&self, name: &str, inputs: &[Vec<u8>], rust: impl Fn(&[u8]) -> A, ours: impl Fn(&[u8]) -> B) {
+    fn race<I, T, A, B>(&self, name: &str, inputs: &[I], rust: impl Fn(&T) -> A, ours: impl Fn(&T) -> B)
+    where
+        I: Borrow<T>,
+        T: ?Sized,
+    {
         let mut best = vec![[f64::MAX; 2]; inputs.len().div_ceil(LOT)];
         for _ in 0..self.rounds {
             for (lot, best) in inputs.chunks(LOT).zip(&mut best) {
@@ -25,16 +33,16 @@ impl Bench {
         println!("{name:28} {:>7} {rust:>10.1} {ours:>10.1} {:>7.3}", inputs.len(), ours / rust);
     }
 
-    fn inputs(&mut self, count: usize, mut one: impl FnMut(&mut Random) -> Vec<u8>) -> Vec<Vec<u8>> {
+    fn inputs<I>(&mut self, count: usize, mut one: impl FnMut(&mut Random) -> I) -> Vec<I> {
         (0..count).map(|_| one(&mut self.random)).collect()
     }
 }
 
 /// The nanoseconds that a function takes on all inputs of a lot.
-fn time<A>(lot: &[Vec<u8>], function: impl Fn(&[u8]) -> A) -> f64 {
+fn time<I: Borrow<T>, T: ?Sized, A>(lot: &[I], function: impl Fn(&T) -> A) -> f64 {
     let start = Instant::now();
     for input in lot {
-        black_box(function(black_box(input)));
+        black_box(function(black_box(input.borrow())));
     }
     start.elapsed().as_nanos() as f64
 }
@@ -64,8 +72,6 @@ fn golay_word(random: &mut Random, flips: u32) -> Vec<u8> {
 }
 
 fn fec(bench: &mut Bench) {
-    use oracle::Kind;
-    use runner::{code::lengths, frames};
     for kind in Kind::ALL {
         let name = format!("{kind:?}").to_lowercase();
         let rust = |received: &[u8]| oracle::fec_decode(kind, received);
@@ -83,6 +89,65 @@ fn fec(bench: &mut Bench) {
     }
 }
 
+/// A body with so many coded bits flipped, of which a stream's LICH has none.
+fn body(kind: Kind, random: &mut Random, flips: usize) -> Vec<u8> {
+    let part = frames::flipped(kind, random, flips).received(kind);
+    let whole = if kind == Kind::Stream { [lich::flipped(random, [0; 4]), part].concat() } else { part };
+    bodies::on_air(&whole).to_vec()
+}
+
+fn reading(bench: &mut Bench) {
+    for (state, most) in [("clean", 1), ("damaged", 9)] {
+        let mut of = |kind| {
+            let bodies = bench.inputs(5_000, |random| {
+                let flips = random.below(most);
+                body(kind, random, flips)
+            });
+            let on_air: Vec<Vec<f32>> = bodies.iter().map(|body| symbols(kind, body)).collect();
+            (bodies, on_air)
+        };
+        let [(headers, headers_on_air), (streams, streams_on_air), (packets, packets_on_air)] = Kind::ALL.map(&mut of);
+        bench.race(&format!("read, {state} header"), &headers, bodies::read_lsf, ours::read_lsf);
+        bench.race(&format!("parse, {state} header"), &headers_on_air, oracle::parse_lsf, ours::parse_lsf);
+        bench.race(&format!("read, {state} stream *"), &streams, bodies::read_stream, ours::read_stream);
+        bench.race(&format!("parse, {state} stream *"), &streams_on_air, oracle::parse_stream, ours::parse_stream);
+        bench.race(&format!("read, {state} packet"), &packets, bodies::read_packet, ours::read_packet);
+        bench.race(&format!("parse, {state} packet"), &packets_on_air, oracle::parse_packet, ours::parse_packet);
+    }
+}
+
+/// Each frame as the Rust has it and as ours has it.
+fn writing(bench: &mut Bench) {
+    let headers = bench.inputs(5_000, |random| {
+        let header: [u8; 30] = random.bytes(30).try_into().unwrap();
+        (LsfFrame(header), header)
+    });
+    let of = |(frame, _): &(LsfFrame, _)| bodies::write_lsf(&frame.0);
+    bench.race("write header", &headers, of, |(_, header)| ours::write_lsf(header));
+    let of = |(frame, _): &(LsfFrame, _)| oracle::encode_lsf(frame);
+    bench.race("encode header", &headers, of, |(_, header)| ours::encode_lsf(header));
+
+    let streams = bench.inputs(5_000, |random| {
+        let mut frame = write::stream_of(&random.bytes(25));
+        (frame.lich_idx, frame.frame_number) = (frame.lich_idx % 6, frame.frame_number & 0x7FFF);
+        (write::for_rust(&frame), frame)
+    });
+    let of = |(frame, _): &(StreamFrame, _)| bodies::write_stream(frame);
+    bench.race("write stream *", &streams, of, |(_, frame)| ours::write_stream(frame));
+    let of = |(frame, _): &(StreamFrame, _)| oracle::encode_stream(frame);
+    bench.race("encode stream *", &streams, of, |(_, frame)| ours::encode_stream(frame));
+
+    let packets = bench.inputs(5_000, |random| {
+        let (index, payload) = (random.below(32), random.bytes(25).try_into().unwrap());
+        let frame = PacketFrame { payload, counter: PacketFrameCounter::Frame { index } };
+        (frame, ours::Packet { final_frame: 0, number: index, payload })
+    });
+    let of = |(frame, _): &(PacketFrame, _)| bodies::write_packet(frame);
+    bench.race("write packet", &packets, of, |(_, frame)| ours::write_packet(frame));
+    let of = |(frame, _): &(PacketFrame, _)| oracle::encode_packet(frame);
+    bench.race("encode packet", &packets, of, |(_, frame)| ours::encode_packet(frame));
+}
+
 fn main() {
     let words: Vec<String> = std::env::args().skip(1).collect();
     let number = |name: &str, usual: u64| {
@@ -90,9 +155,14 @@ fn main() {
         place.map_or(usual, |at| words.get(at + 1).and_then(|word| word.parse().ok()).expect("a number"))
     };
     let mut bench = Bench { random: Random::new(number("--seed", 1)), rounds: number("--rounds", 10) as usize };
+    if ours::EMULATED {
+        println!("ours runs under an emulator here: its times and the ratios say nothing");
+    }
     println!("nanoseconds a call, best of {} rounds; ratio: ours to the Rust's", bench.rounds);
     println!("{:28} {:>7} {:>10} {:>10} {:>7}", "name", "inputs", "the Rust", "ours", "ratio");
     leaves(&mut bench);
     fec(&mut bench);
+    reading(&mut bench);
+    writing(&mut bench);
     println!("* a stand-in for the outside crate does the work on the Rust's side");
 }

@@ -26,6 +26,10 @@ abbrev pub bytesGiven : Verdict → List ℕ → List ℕ → List ℕ
 bytesGiven verdict.Done bytes old = bytes
 bytesGiven (verdict.Refused why) bytes old = old
 
+abbrev pub numberGiven : Verdict → ℕ → ℕ → ℕ
+numberGiven verdict.Done n old = n
+numberGiven (verdict.Refused why) n old = old
+
 -- a buffer of n bytes lent for the answer: 1 where it has another length, before anything else
 abbrev pub lentSaid : ℕ → List ℕ → Verdict → ℕ
 lentSaid n old v = cond (eqb (length old) n) (saidOf v) 1

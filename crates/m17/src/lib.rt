@@ -9,9 +9,12 @@ ghost use Rattle.random.specs.Random.{xored};
 ghost use Rattle.interleave.specs.Interleave.{interleavedOf};
 ghost use Rattle.address.specs.Address.{decodedOf as addressReadOf, numberOfHeard, unwritten};
 ghost use Rattle.golay.specs.Golay.{encodedOf, decodedOf, numberOfCodeword, numberOfReading};
-ghost use Rattle.m17.specs.Given.{bitGiven, lentSaid, lentBytes, wordGiven, dataGiven, heardInto, heardGiven, charactersGiven};
+ghost use Rattle.m17.specs.Given.{bitGiven, numberGiven, lentSaid, lentBytes, wordGiven, dataGiven, heardInto, heardGiven, charactersGiven};
 ghost use Rattle.m17.specs.Fec.{kindFor, codedOf, readOf};
 ghost use Rattle.m17.specs.Kinds.{kindOf, reservedOf, addressFor, addressWrittenOf};
+
+mod header;
+
 use address::Address;
 use address::Heard;
 use address::Written;
@@ -40,6 +43,19 @@ fn give(answer: Verdict, bytes: &[u8], out: &mut [u8]) -> u8
         i += 1;
     }
     0
+}
+
+// The number of an answer, written where nothing is refused.
+fn give_number(answer: Verdict, number: u8, out: &mut u8) -> u8
+    ensures { λ r. ⌜ (r ≡ saidOf answer) × (now (out .exit) ≡ numberGiven answer number (now (out .entry))) ⌝ }
+{
+    match answer {
+        Verdict::Done => {
+            *out = number;
+            0
+        }
+        Verdict::Refused(why) => refusal::number(why),
+    }
 }
 
 #[no_mangle]

@@ -1,5 +1,7 @@
 //! What the library's functions look like from C. A buffer is a pointer and, right after it, its length, named after it.
 
+use crate::given::{Answer, Argument, Given};
+
 macro_rules! functions {
     ($(fn $name:ident($($given:ident: $kind:ty),* $(,)?) $(-> $answer:ty)?;)*) => {
         #[cfg(target_arch = "x86_64")]
@@ -22,6 +24,18 @@ macro_rules! functions {
                     call(Place::$name as usize, &[$((stringify!($given), Word::from($given))),*])
                 }
             )*
+        }
+
+        /// Calls a function by its name, so that any buffer can be lent with any length.
+        pub fn by_name(name: &str, given: &mut [Given]) -> Option<u8> {
+            let mut given = given.iter_mut();
+            match name {
+                $(stringify!($name) => {
+                    $(let $given = <$kind>::given(given.next()?);)*
+                    Answer::number(unsafe { $name($($given),*) })
+                })*
+                _ => None,
+            }
         }
     };
 }

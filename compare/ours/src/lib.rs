@@ -6,12 +6,15 @@ mod c;
 
 mod bodies;
 mod collection;
+mod given;
 mod header;
 mod leaves;
 mod symbols;
 
 pub use bodies::*;
+pub use c::by_name;
 pub use collection::*;
+pub use given::Given;
 pub use header::*;
 pub use leaves::*;
 pub use symbols::*;

@@ -9,6 +9,7 @@ pub mod fec;
 pub mod frames;
 pub mod header;
 pub mod leaves;
+pub mod lengths;
 pub mod lich;
 pub mod observe;
 pub mod outside;

@@ -1,7 +1,7 @@
 //! compare [--seed N] [--count N] [--full] [NAME...]: runs each comparison, or those whose name begins so.
 use runner::comparison::{Comparison, Ran, Wanted};
 use runner::random::Random;
-use runner::{address, collection, fec, header, leaves, lich, observe, outside, parse, words, write};
+use runner::{address, collection, fec, header, leaves, lengths, lich, observe, outside, parse, words, write};
 use std::process::ExitCode;
 
 struct Asked {
@@ -40,6 +40,7 @@ fn comparisons() -> Vec<Comparison> {
         Vec::from(lich::ALL),
         Vec::from(write::ALL),
         Vec::from(parse::ALL),
+        Vec::from(lengths::ALL),
     ];
     parts.into_iter().flatten().collect()
 }

@@ -5,8 +5,8 @@
 #include <stdlib.h>
 #include <string.h>
 
-uint8_t m17_fec_encode(uint8_t kind, const uint8_t *plain, size_t len, uint8_t out[46]);
-uint8_t m17_fec_decode(uint8_t kind, const uint8_t *received, size_t len, uint8_t out[30]);
+uint8_t m17_fec_encode(uint8_t kind, const uint8_t *plain, size_t len, uint8_t *out, size_t out_len);
+uint8_t m17_fec_decode(uint8_t kind, const uint8_t *received, size_t len, uint8_t *out, size_t out_len);
 
 enum { SIZE = 1 << 20, PAINT = 0xA5 };
 
@@ -20,13 +20,13 @@ static void *nothing(void *unused) { return unused; }
 static void *writing(void *unused)
 {
     static const uint8_t zeros[30];
-    m17_fec_encode(kind, zeros, plain_bytes[kind], coded);
+    m17_fec_encode(kind, zeros, plain_bytes[kind], coded, 46);
     return unused;
 }
 
 static void *reading(void *unused)
 {
-    m17_fec_decode(kind, coded, coded_bytes[kind], found);
+    m17_fec_decode(kind, coded, coded_bytes[kind], found, 30);
     return unused;
 }
 

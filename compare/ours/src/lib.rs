@@ -8,7 +8,7 @@ mod c {
         pub fn m17_crc(input: *const u8, len: usize) -> u16;
         pub fn m17_crc_update(start: u16, input: *const u8, len: usize) -> u16;
         pub fn m17_random_xor(bytes: *mut u8, len: usize);
-        pub fn m17_interleave(payload: *const u8, len: usize, out: *mut [u8; 46]) -> u8;
+        pub fn m17_interleave(payload: *const u8, len: usize, out: *mut u8, out_len: usize) -> u8;
         pub fn m17_golay_encode(value: u16, out: *mut u32) -> u8;
         pub fn m17_golay_decode(word: u32, out: *mut u16) -> u8;
     }
@@ -20,15 +20,23 @@ mod c {
             len: usize,
             kind: *mut u8,
             value: *mut u64,
-            callsign: *mut [u8; 9],
+            callsign: *mut u8,
+            callsign_len: usize,
         ) -> u8;
-        pub fn m17_encode_address(kind: u8, value: u64, callsign: *const u8, len: usize, out: *mut [u8; 6]) -> u8;
+        pub fn m17_encode_address(
+            kind: u8,
+            value: u64,
+            callsign: *const u8,
+            len: usize,
+            out: *mut u8,
+            out_len: usize,
+        ) -> u8;
     }
 
     #[cfg(feature = "fec")]
     extern "C" {
-        pub fn m17_fec_encode(kind: u8, data: *const u8, len: usize, out: *mut [u8; 46]) -> u8;
-        pub fn m17_fec_decode(kind: u8, received: *const u8, len: usize, out: *mut [u8; 30]) -> u8;
+        pub fn m17_fec_encode(kind: u8, data: *const u8, len: usize, out: *mut u8, out_len: usize) -> u8;
+        pub fn m17_fec_decode(kind: u8, received: *const u8, len: usize, out: *mut u8, out_len: usize) -> u8;
     }
 }
 
@@ -79,7 +87,7 @@ pub fn random_xor(bytes: &mut [u8]) {
 
 pub fn interleave(payload: &[u8]) -> Result<[u8; 46], Refused> {
     let mut out = [MARK; 46];
-    let said = unsafe { c::m17_interleave(payload.as_ptr(), payload.len(), &mut out) };
+    let said = unsafe { c::m17_interleave(payload.as_ptr(), payload.len(), out.as_mut_ptr(), out.len()) };
     answered(said, out, [MARK; 46])
 }
 
@@ -108,7 +116,14 @@ pub fn decode_address(encoded: &[u8]) -> Result<Address, Refused> {
     let before = Address { kind: MARK, value: MARK as u64, callsign: [MARK; 9] };
     let mut out = before;
     let said = unsafe {
-        c::m17_decode_address(encoded.as_ptr(), encoded.len(), &mut out.kind, &mut out.value, &mut out.callsign)
+        c::m17_decode_address(
+            encoded.as_ptr(),
+            encoded.len(),
+            &mut out.kind,
+            &mut out.value,
+            out.callsign.as_mut_ptr(),
+            out.callsign.len(),
+        )
     };
     answered(said, out, before)
 }
@@ -116,20 +131,23 @@ pub fn decode_address(encoded: &[u8]) -> Result<Address, Refused> {
 #[cfg(feature = "address")]
 pub fn encode_address(kind: u8, value: u64, callsign: &[u8]) -> Result<[u8; 6], Refused> {
     let mut out = [MARK; 6];
-    let said = unsafe { c::m17_encode_address(kind, value, callsign.as_ptr(), callsign.len(), &mut out) };
+    let said = unsafe {
+        c::m17_encode_address(kind, value, callsign.as_ptr(), callsign.len(), out.as_mut_ptr(), out.len())
+    };
     answered(said, out, [MARK; 6])
 }
 
 #[cfg(feature = "fec")]
 pub fn fec_encode(kind: u8, data: &[u8]) -> Result<[u8; 46], Refused> {
     let mut out = [MARK; 46];
-    let said = unsafe { c::m17_fec_encode(kind, data.as_ptr(), data.len(), &mut out) };
+    let said = unsafe { c::m17_fec_encode(kind, data.as_ptr(), data.len(), out.as_mut_ptr(), out.len()) };
     answered(said, out, [MARK; 46])
 }
 
 #[cfg(feature = "fec")]
 pub fn fec_decode(kind: u8, received: &[u8]) -> Result<[u8; 30], Refused> {
     let mut out = [MARK; 30];
-    let said = unsafe { c::m17_fec_decode(kind, received.as_ptr(), received.len(), &mut out) };
+    let said =
+        unsafe { c::m17_fec_decode(kind, received.as_ptr(), received.len(), out.as_mut_ptr(), out.len()) };
     answered(said, out, [MARK; 30])
 }

@@ -1,6 +1,11 @@
 -- What lent memory holds after an answer: what is answered, and on a refusal what it held before. Assumes nothing.
+use mathlib.Core.Bool.{cond}
 use mathlib.Core.List.{List}
 use Prim.Native.Nat.{ℕ}
+use lib.Dec.{eqb}
+use lib.ListN.{length}
+use Rattle.refusal.specs.Number.{saidOf}
+use Rattle.refusal.specs.declared.Refusal.the-variants.{WrongLength}
 use Rattle.refusal.specs.declared.Verdict.{Verdict}
 use Rattle.refusal.specs.declared.Verdict.the-variants as verdict
 use Rattle.bits.specs.declared.Bit.{Bit}
@@ -8,7 +13,6 @@ use Rattle.bits.specs.declared.Bit.the-variants as bit
 use Rattle.address.specs.declared.Address.{Address}
 use Rattle.address.specs.declared.Heard.{Heard}
 use Rattle.address.specs.declared.Heard.the-variants as heard
-use Rattle.address.specs.declared.Reading as address
 use Rattle.golay.specs.declared.Codeword.{Codeword}
 use Rattle.golay.specs.declared.Codeword.the-variants as codeword
 use Rattle.golay.specs.declared.Reading.{Reading}
@@ -22,6 +26,13 @@ abbrev pub bytesGiven : Verdict → List ℕ → List ℕ → List ℕ
 bytesGiven verdict.Done bytes old = bytes
 bytesGiven (verdict.Refused why) bytes old = old
 
+-- a buffer of n bytes lent for the answer: 1 where it has another length, before anything else
+abbrev pub lentSaid : ℕ → List ℕ → Verdict → ℕ
+lentSaid n old v = cond (eqb (length old) n) (saidOf v) 1
+
+abbrev pub lentBytes : ℕ → List ℕ → Verdict → List ℕ → List ℕ
+lentBytes n old v bytes = cond (eqb (length old) n) (bytesGiven v bytes old) old
+
 abbrev pub wordGiven : Codeword → ℕ → ℕ
 wordGiven (codeword.Word w) old = w
 wordGiven (codeword.Refused why) old = old
@@ -30,15 +41,16 @@ abbrev pub dataGiven : Reading → ℕ → ℕ
 dataGiven (reading.Data d) old = d
 dataGiven (reading.Refused why) old = old
 
+-- reading an address, with a buffer of nine bytes lent for its characters: 1 where it has another length
+abbrev pub heardInto : List ℕ → Heard → Heard
+heardInto old h = cond (eqb (length old) 9) h (heard.Refused WrongLength)
+
 -- a number of the address that was read
 abbrev pub heardGiven : (Address → ℕ) → Heard → ℕ → ℕ
 heardGiven f (heard.Read a) old = f a
 heardGiven f (heard.Refused why) old = old
 
 -- the nine characters beside it
-abbrev pub charactersBy : Heard → List ℕ → List ℕ → List ℕ
-charactersBy (heard.Read a) nine old = nine
-charactersBy (heard.Refused why) nine old = old
-
-abbrev pub charactersGiven : address.Reading → List ℕ → List ℕ
-charactersGiven r old = charactersBy (r .answer) (r .callsign) old
+abbrev pub charactersGiven : Heard → List ℕ → List ℕ → List ℕ
+charactersGiven (heard.Read a) nine old = nine
+charactersGiven (heard.Refused why) nine old = old

@@ -1,6 +1,7 @@
 // The codec for C and Rust. A function that can refuse returns 0 or the number of its refusal, and writes what it answers
 // through lent memory, which a refusal leaves as it was.
 ghost use mathlib.Core.Path.{_≡_};
+ghost use lib.ListN.{length};
 ghost use Rattle.refusal.specs.Number.{saidOf};
 ghost use Rattle.bits.specs.Places.{getOf, setOf, withBit, numberOfBit};
 ghost use Rattle.crc.specs.Crc.{crcFrom, crc};
@@ -8,7 +9,7 @@ ghost use Rattle.random.specs.Random.{xored};
 ghost use Rattle.interleave.specs.Interleave.{interleavedOf};
 ghost use Rattle.address.specs.Address.{decodedOf as addressReadOf, numberOfHeard, unwritten};
 ghost use Rattle.golay.specs.Golay.{encodedOf, decodedOf, numberOfCodeword, numberOfReading};
-ghost use Rattle.m17.specs.Given.{bitGiven, bytesGiven, wordGiven, dataGiven, heardGiven, charactersGiven};
+ghost use Rattle.m17.specs.Given.{bitGiven, lentSaid, lentBytes, wordGiven, dataGiven, heardInto, heardGiven, charactersGiven};
 ghost use Rattle.m17.specs.Fec.{kindFor, codedOf, readOf};
 ghost use Rattle.m17.specs.Kinds.{kindOf, reservedOf, addressFor, addressWrittenOf};
 use address::Address;
@@ -22,6 +23,24 @@ use golay::Codeword;
 use golay::Reading;
 use refusal::Refusal;
 use refusal::Verdict;
+
+// The bytes of an answer, written where nothing is refused. The length of `out` is judged first.
+fn give(answer: Verdict, bytes: &[u8], out: &mut [u8]) -> u8
+    ensures { λ r. ⌜ (r ≡ lentSaid (length (now (bytes .entry))) (now (out .entry)) answer) × (now (out .exit) ≡ lentBytes (length (now (bytes .entry))) (now (out .entry)) answer (now (bytes .entry))) ⌝ }
+{
+    if out.len() != bytes.len() {
+        return 1;
+    }
+    if let Verdict::Refused(why) = answer {
+        return refusal::number(why);
+    }
+    let mut i = 0;
+    while i < out.len() {
+        out[i] = bytes[i];
+        i += 1;
+    }
+    0
+}
 
 #[no_mangle]
 pub extern "C" fn m17_get_bit(bytes: &[u8], place: usize, out: &mut u8) -> u8
@@ -65,19 +84,13 @@ pub extern "C" fn m17_random_xor(bytes: &mut [u8])
 }
 
 #[no_mangle]
-pub extern "C" fn m17_interleave(payload: &[u8], out: &mut [u8; 46]) -> u8
-    ensures { λ r. ⌜ (r ≡ saidOf (interleavedOf (now (payload .entry)) .answer)) × (now (out .exit) ≡ bytesGiven (interleavedOf (now (payload .entry)) .answer) (interleavedOf (now (payload .entry)) .bytes) (now (out .entry))) ⌝ }
+pub extern "C" fn m17_interleave(payload: &[u8], out: &mut [u8]) -> u8
+    ensures { λ r. ⌜ (r ≡ lentSaid 46 (now (out .entry)) (interleavedOf (now (payload .entry)) .answer)) × (now (out .exit) ≡ lentBytes 46 (now (out .entry)) (interleavedOf (now (payload .entry)) .answer) (interleavedOf (now (payload .entry)) .bytes)) ⌝ }
 {
     let done = interleave::interleave(payload);
     let answer = done.answer;
-    match answer {
-        Verdict::Done => {
-            let bytes = done.bytes;
-            *out = bytes;
-            0
-        }
-        Verdict::Refused(why) => refusal::number(why),
-    }
+    let bytes = done.bytes;
+    give(answer, &bytes, out)
 }
 
 #[no_mangle]
@@ -128,27 +141,35 @@ fn reserved_of(address: Address) -> u64
     }
 }
 
+// An address that was read, with its characters. The length of `out` is judged first.
+fn give_address(read: address::Reading, kind: &mut u8, value: &mut u64, out: &mut [u8]) -> u8
+    ensures { λ r. ⌜ (r ≡ numberOfHeard (heardInto (now (out .entry)) (read .answer))) × (now (kind .exit) ≡ heardGiven kindOf (heardInto (now (out .entry)) (read .answer)) (now (kind .entry))) × (now (value .exit) ≡ heardGiven reservedOf (heardInto (now (out .entry)) (read .answer)) (now (value .entry))) × (now (out .exit) ≡ charactersGiven (heardInto (now (out .entry)) (read .answer)) (read .callsign) (now (out .entry))) ⌝ }
+{
+    if out.len() != 9 {
+        return 1;
+    }
+    let answer = read.answer;
+    match answer {
+        Heard::Read(a) => {
+            let characters = read.callsign;
+            *kind = kind_of(a);
+            *value = reserved_of(a);
+            give(Verdict::Done, &characters, out)
+        }
+        Heard::Refused(why) => refusal::number(why),
+    }
+}
+
 #[no_mangle]
 pub extern "C" fn m17_decode_address(
     encoded: &[u8],
     kind: &mut u8,
     value: &mut u64,
-    callsign: &mut [u8; 9],
+    callsign: &mut [u8],
 ) -> u8
-    ensures { λ r. ⌜ (r ≡ numberOfHeard (addressReadOf (now (encoded .entry)) .answer)) × (now (kind .exit) ≡ heardGiven kindOf (addressReadOf (now (encoded .entry)) .answer) (now (kind .entry))) × (now (value .exit) ≡ heardGiven reservedOf (addressReadOf (now (encoded .entry)) .answer) (now (value .entry))) × (now (callsign .exit) ≡ charactersGiven (addressReadOf (now (encoded .entry))) (now (callsign .entry))) ⌝ }
+    ensures { λ r. ⌜ (r ≡ numberOfHeard (heardInto (now (callsign .entry)) (addressReadOf (now (encoded .entry)) .answer))) × (now (kind .exit) ≡ heardGiven kindOf (heardInto (now (callsign .entry)) (addressReadOf (now (encoded .entry)) .answer)) (now (kind .entry))) × (now (value .exit) ≡ heardGiven reservedOf (heardInto (now (callsign .entry)) (addressReadOf (now (encoded .entry)) .answer)) (now (value .entry))) × (now (callsign .exit) ≡ charactersGiven (heardInto (now (callsign .entry)) (addressReadOf (now (encoded .entry)) .answer)) (addressReadOf (now (encoded .entry)) .callsign) (now (callsign .entry))) ⌝ }
 {
-    let read = address::decode_address(encoded);
-    let answer = read.answer;
-    match answer {
-        Heard::Read(a) => {
-            let characters = read.callsign;
-            *callsign = characters;
-            *kind = kind_of(a);
-            *value = reserved_of(a);
-            0
-        }
-        Heard::Refused(why) => refusal::number(why),
-    }
+    give_address(address::decode_address(encoded), kind, value, callsign)
 }
 
 fn address_for(kind: u8, value: u64) -> Address
@@ -187,19 +208,13 @@ fn written_address(kind: u8, value: u64, callsign: &[u8]) -> Written
 }
 
 #[no_mangle]
-pub extern "C" fn m17_encode_address(kind: u8, value: u64, callsign: &[u8], out: &mut [u8; 6]) -> u8
-    ensures { λ r. ⌜ (r ≡ saidOf (addressWrittenOf kind value (now (callsign .entry)) .answer)) × (now (out .exit) ≡ bytesGiven (addressWrittenOf kind value (now (callsign .entry)) .answer) (addressWrittenOf kind value (now (callsign .entry)) .bytes) (now (out .entry))) ⌝ }
+pub extern "C" fn m17_encode_address(kind: u8, value: u64, callsign: &[u8], out: &mut [u8]) -> u8
+    ensures { λ r. ⌜ (r ≡ lentSaid 6 (now (out .entry)) (addressWrittenOf kind value (now (callsign .entry)) .answer)) × (now (out .exit) ≡ lentBytes 6 (now (out .entry)) (addressWrittenOf kind value (now (callsign .entry)) .answer) (addressWrittenOf kind value (now (callsign .entry)) .bytes)) ⌝ }
 {
     let done = written_address(kind, value, callsign);
     let answer = done.answer;
-    match answer {
-        Verdict::Done => {
-            let six = done.bytes;
-            *out = six;
-            0
-        }
-        Verdict::Refused(why) => refusal::number(why),
-    }
+    let bytes = done.bytes;
+    give(answer, &bytes, out)
 }
 
 fn kind_for(kind: u8) -> Kind
@@ -239,33 +254,21 @@ fn read(kind: u8, received: &[u8]) -> Decoded
 }
 
 #[no_mangle]
-pub extern "C" fn m17_fec_encode(kind: u8, plain: &[u8], out: &mut [u8; 46]) -> u8
-    ensures { λ r. ⌜ (r ≡ saidOf (codedOf kind (now (plain .entry)) .answer)) × (now (out .exit) ≡ bytesGiven (codedOf kind (now (plain .entry)) .answer) (codedOf kind (now (plain .entry)) .bytes) (now (out .entry))) ⌝ }
+pub extern "C" fn m17_fec_encode(kind: u8, plain: &[u8], out: &mut [u8]) -> u8
+    ensures { λ r. ⌜ (r ≡ lentSaid 46 (now (out .entry)) (codedOf kind (now (plain .entry)) .answer)) × (now (out .exit) ≡ lentBytes 46 (now (out .entry)) (codedOf kind (now (plain .entry)) .answer) (codedOf kind (now (plain .entry)) .bytes)) ⌝ }
 {
     let done = coded(kind, plain);
     let answer = done.answer;
-    match answer {
-        Verdict::Done => {
-            let packed = done.bytes;
-            *out = packed;
-            0
-        }
-        Verdict::Refused(why) => refusal::number(why),
-    }
+    let bytes = done.bytes;
+    give(answer, &bytes, out)
 }
 
 #[no_mangle]
-pub extern "C" fn m17_fec_decode(kind: u8, received: &[u8], out: &mut [u8; 30]) -> u8
-    ensures { λ r. ⌜ (r ≡ saidOf (readOf kind (now (received .entry)) .answer)) × (now (out .exit) ≡ bytesGiven (readOf kind (now (received .entry)) .answer) (readOf kind (now (received .entry)) .bytes) (now (out .entry))) ⌝ }
+pub extern "C" fn m17_fec_decode(kind: u8, received: &[u8], out: &mut [u8]) -> u8
+    ensures { λ r. ⌜ (r ≡ lentSaid 30 (now (out .entry)) (readOf kind (now (received .entry)) .answer)) × (now (out .exit) ≡ lentBytes 30 (now (out .entry)) (readOf kind (now (received .entry)) .answer) (readOf kind (now (received .entry)) .bytes)) ⌝ }
 {
     let done = read(kind, received);
     let answer = done.answer;
-    match answer {
-        Verdict::Done => {
-            let found = done.bytes;
-            *out = found;
-            0
-        }
-        Verdict::Refused(why) => refusal::number(why),
-    }
+    let bytes = done.bytes;
+    give(answer, &bytes, out)
 }

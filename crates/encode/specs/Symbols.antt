@@ -7,6 +7,7 @@ use lib.IntN.{pos}
 use lib.Ieee.{Float, fin, binary32, div, neg}
 use lib.ListN.{length, getD, replicate}
 use Rattle.laws.specs.Tabled.{tabled}
+use Rattle.refusal.specs.declared.Refusal.{Refusal}
 use Rattle.refusal.specs.declared.Refusal.the-variants.{WrongLength}
 use Rattle.refusal.specs.declared.Verdict.{Verdict}
 use Rattle.refusal.specs.declared.Verdict.the-variants.{Done, Refused}
@@ -52,9 +53,12 @@ syncOf Packet = 0x75 ∷ 0xFF ∷ []
 
 -- ---- what writing a whole frame answers: the symbols, or the body's refusal and zeros
 
+abbrev pub unsent : Refusal → Symbols
+unsent why = record { answer = Refused why; symbols = replicate 192 (fin false 0 (pos 0)) }
+
 abbrev pub symbolsBy : Verdict → Kind → List ℕ → Symbols
 symbolsBy Done kind body = record { answer = Done; symbols = frameOf (syncOf kind) body }
-symbolsBy (Refused why) kind body = record { answer = Refused why; symbols = replicate 192 (fin false 0 (pos 0)) }
+symbolsBy (Refused why) kind body = unsent why
 
 abbrev pub symbolsFrom : Kind → Body → Symbols
 symbolsFrom kind b = symbolsBy (b .answer) kind (b .bytes)

@@ -327,7 +327,7 @@ fn sync_of(kind: Kind) -> [u8; 2]
 }
 
 // The symbols of a body, or its refusal.
-fn symbols_from(kind: Kind, body: Body) -> Symbols
+pub fn symbols_from(kind: Kind, body: Body) -> Symbols
     ensures { λ r. ⌜ r ≡ symbolsFrom kind body ⌝ }
 {
     let answer = body.answer;

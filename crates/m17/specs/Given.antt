@@ -26,6 +26,10 @@ abbrev pub bytesGiven : {A : Type 0} → Verdict → List A → List A → List 
 bytesGiven verdict.Done bytes old = bytes
 bytesGiven (verdict.Refused why) bytes old = old
 
+abbrev pub numberGiven : Verdict → ℕ → ℕ → ℕ
+numberGiven verdict.Done n old = n
+numberGiven (verdict.Refused why) n old = old
+
 -- a buffer of n bytes, or symbols, lent for the answer: 1 where it has another length, before anything else
 abbrev pub lentSaid : {A : Type 0} → ℕ → List A → Verdict → ℕ
 lentSaid n old v = cond (eqb (length old) n) (saidOf v) 1

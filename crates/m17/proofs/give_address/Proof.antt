@@ -41,7 +41,7 @@ returns-2 c =
     let a = g .before .before .args in
     when-read (a .out .now) (a .kind .now) (a .value .now) (a .read) (g .if1 .left) _ (k .before .before .before .answer .given .1) _ _ _ _ (k .kind-of .ensures)
     (c .before .before .before .before .before .reserved-of .ensures)
-    (given 9 (a .out .now) Done _ (a .read .callsign) _ _ _ (search needs) refl refl (c .before .before .give .ensures))
+    (given 9 (a .out .now) Done _ (a .read .callsign) _ _ _ (search needs) refl (λ _ _. refl) (c .before .before .give .ensures))
 
 returns-3 : tie.Need-returns-3
 returns-3 c =

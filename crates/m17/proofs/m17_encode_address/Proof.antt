@@ -22,7 +22,7 @@ returns : tie.Need-returns
 returns c =
     let g = c .before .before .before .before .before .before in
     let e = g .written-address .ensures in
-    given 6 (g .before .before .before .args .out .now) _ _ _ _ _ _ (search needs) (ap (λ (x : Written). x .answer) e) (ap (λ (x : Written). x .bytes) e) (c .before .before .give .ensures)
+    given 6 (g .before .before .before .args .out .now) _ _ _ _ _ _ (search needs) (ap (λ (x : Written). x .answer) e) (λ _ _. ap (λ (x : Written). x .bytes) e) (c .before .before .give .ensures)
 
 pub m17-encode-address-spec : {M : Type 1} → statement M
 m17-encode-address-spec =

@@ -22,7 +22,7 @@ returns : tie.Need-returns
 returns c =
     let g = c .before .before .before .before .before .before in
     let e = g .read .ensures in
-    given 30 (g .before .before .before .args .out .now) _ _ _ _ _ _ (search needs) (ap (λ (x : Decoded). x .answer) e) (ap (λ (x : Decoded). x .bytes) e) (c .before .before .give .ensures)
+    given 30 (g .before .before .before .args .out .now) _ _ _ _ _ _ (search needs) (ap (λ (x : Decoded). x .answer) e) (λ _ _. ap (λ (x : Decoded). x .bytes) e) (c .before .before .give .ensures)
 
 pub m17-fec-decode-spec : {M : Type 1} → statement M
 m17-fec-decode-spec =

@@ -28,7 +28,7 @@ use Rattle.protocol.specs.declared.PacketFrameCounter.the-variants.{Frame, Fina
 use Rattle.encode.specs.declared.Body.{Body}
 use Rattle.encode.specs.Lich.{lichValue, lichBytes}
 use Rattle.encode.specs.Bodies.{masked, written, lsfBodyOf, endMark, streamFields, streamBodyOf, countable, packetFields, packetBodyOf}
-use Rattle.encode.specs.Symbols.{frameOf, headerSync, streamSync, packetSync, symbolsFrom, lsfSymbolsOf, streamSymbolsOf, packetSymbolsOf}
+use Rattle.encode.specs.Symbols.{frameOf, syncOf, symbolsFrom, lsfSymbolsOf, streamSymbolsOf, packetSymbolsOf}
 use Rattle.decode.specs.declared.LichRead.{LichRead}
 use Rattle.decode.specs.declared.StreamRead.{StreamRead}
 use Rattle.decode.specs.declared.PacketRead.{PacketRead}
@@ -79,9 +79,9 @@ module _ (h : List ℕ) (long : length h ≡ 30) (bytes : Bytes h) where
   pub lsf-symbols-back : lsfParsedOf (lsfSymbolsOf (record { bytes = h }) .symbols) ≡ record { answer = Done; frame = record { bytes = h } }
   unfolding lsfParsedOf lsfSymbolsOf
   lsf-symbols-back =
-      ap (λ (b : Body). lsfParsedOf (symbolsFrom headerSync b .symbols)) lsf-body
-      ∙ simp (eq-eqb (length (frameOf headerSync (masked coded-lsf))) 192 (length-frame headerSync (masked coded-lsf)))
-      (ap lsfReadOf (symbols-back headerSync (masked coded-lsf) (length-masked coded-lsf) (masked-bytes coded-lsf) refl) ∙ read-lsf)
+      ap (λ (b : Body). lsfParsedOf (symbolsFrom Header b .symbols)) lsf-body
+      ∙ simp (eq-eqb (length (frameOf (syncOf Header) (masked coded-lsf))) 192 (length-frame (syncOf Header) (masked coded-lsf)))
+      (ap lsfReadOf (symbols-back (syncOf Header) (masked coded-lsf) (length-masked coded-lsf) (masked-bytes coded-lsf) refl) ∙ read-lsf)
 
 -- ---- stream
 
@@ -182,9 +182,9 @@ module _ (index : ℕ) (part : List ℕ) (n : ℕ) (end : Bool) (s : List ℕ) (
       }
   unfolding streamParsedOf streamSymbolsOf fields
   stream-symbols-back =
-      ap (λ (b : Body). streamParsedOf (symbolsFrom streamSync b .symbols)) stream-body
-      ∙ simp (eq-eqb (length (frameOf streamSync (masked coded-stream))) 192 (length-frame streamSync (masked coded-stream)))
-      (ap streamReadOf (symbols-back streamSync (masked coded-stream) (length-masked coded-stream) (masked-bytes coded-stream) refl) ∙ read-stream)
+      ap (λ (b : Body). streamParsedOf (symbolsFrom Stream b .symbols)) stream-body
+      ∙ simp (eq-eqb (length (frameOf (syncOf Stream) (masked coded-stream))) 192 (length-frame (syncOf Stream) (masked coded-stream)))
+      (ap streamReadOf (symbols-back (syncOf Stream) (masked coded-stream) (length-masked coded-stream) (masked-bytes coded-stream) refl) ∙ read-stream)
 
 -- ---- packet
 
@@ -287,6 +287,6 @@ module _ (counter : PacketFrameCounter) (s : List ℕ) (in-range : countable cou
       ≡ record { answer = Done; frame = record { payload = kept counter s; counter = counter } }
   unfolding packetParsedOf packetSymbolsOf
   packet-symbols-back =
-      ap (λ (b : Body). packetParsedOf (symbolsFrom packetSync b .symbols)) packet-body
-      ∙ simp (eq-eqb (length (frameOf packetSync (masked coded-packet))) 192 (length-frame packetSync (masked coded-packet)))
-      (ap packetReadOf (symbols-back packetSync (masked coded-packet) (length-masked coded-packet) (masked-bytes coded-packet) refl) ∙ read-packet)
+      ap (λ (b : Body). packetParsedOf (symbolsFrom Packet b .symbols)) packet-body
+      ∙ simp (eq-eqb (length (frameOf (syncOf Packet) (masked coded-packet))) 192 (length-frame (syncOf Packet) (masked coded-packet)))
+      (ap packetReadOf (symbols-back (syncOf Packet) (masked coded-packet) (length-masked coded-packet) (masked-bytes coded-packet) refl) ∙ read-packet)

@@ -9,12 +9,16 @@ use lib.IntN.{pos}
 use lib.Ieee.{Float, nan, fin, div, neg, lt, round}
 use lib.ListN.{length, getD, drop, length-drop}
 use lib.Seq.{drop-at, getD-drop}
+use borrow.Author.Tests.{eq-eqb}
 use Rattle.laws.specs.Value.{Bytes}
 use Rattle.laws.proofs.Values.{length-tabled, tabled-at}
 use Rattle.bits.specs.Bits.{bitsOf, bytesOf}
 use Rattle.bits.proofs.Back.{bytes-bits, bytes-alike, drop-bits}
-use Rattle.encode.specs.Symbols.{third, symbolOf, symbolsOf, frameOf}
-use Rattle.decode.specs.Symbols.{edge, pairOf, pairsOf, bodyFrom}
+use Rattle.fec.specs.declared.Kind.{Kind}
+use Rattle.fec.specs.declared.Kind.the-variants.{Header, Stream, Packet}
+use Rattle.encode.specs.Bodies.{written}
+use Rattle.encode.specs.Symbols.{third, symbolOf, symbolsOf, frameOf, syncOf, bodySymbolsOf}
+use Rattle.decode.specs.Symbols.{edge, pairOf, pairsOf, bodyFrom, bodyReadOf}
 use Rattle.decode.proofs.Pairs.{pair-at}
 
 -- the exact round trip of two bits through an f32
@@ -85,3 +89,15 @@ symbols-back sync body long bytes two =
     ap (λ (k : ℕ). getD (pairsOf (drop 8 (frameOf sync body))) k false) e
     ∙ bit-back sync body two (n / 2) (n % 2) (omega arith) (omega arith) ∙ ap (λ (k : ℕ). getD (bitsOf body) k false) (sym e))
     ∙ ap (λ (n : ℕ). bytesOf n (bitsOf body)) (sym long) ∙ bytes-bits body bytes
+
+sync-long : (kind : Kind) → length (syncOf kind) ≡ 2
+sync-long Header = refl
+sync-long Stream = refl
+sync-long Packet = refl
+
+-- 46 bytes written as symbols, of any kind, read as those bytes
+pub body-back : (kind : Kind) (body : List ℕ) → length body ≡ 46 → Bytes body → bodyReadOf (bodySymbolsOf kind body .symbols) ≡ written body
+unfolding bodySymbolsOf bodyReadOf
+body-back kind body long bytes =
+    simp (eq-eqb (length body) 46 long, eq-eqb (length (frameOf (syncOf kind) body)) 192 (length-frame (syncOf kind) body))
+    (ap written (symbols-back (syncOf kind) body long bytes (sync-long kind)))

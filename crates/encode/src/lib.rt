@@ -8,7 +8,7 @@ ghost use Rattle.golay.specs.Golay.{golay};
 ghost use Rattle.fec.specs.Kinds.{encodedOf};
 ghost use Rattle.encode.specs.Lich.{lichValue, lichWords, lichBytes, lichOf};
 ghost use Rattle.encode.specs.Bodies.{masked, written, unwritten, endMark, streamFields, lsfBodyOf, streamBodyOf, packetBodyOf};
-ghost use Rattle.encode.specs.Symbols.{symbolOf, frameOf, symbolsFrom, lsfSymbolsOf, streamSymbolsOf, packetSymbolsOf};
+ghost use Rattle.encode.specs.Symbols.{symbolOf, frameOf, syncOf, symbolsFrom, bodySymbolsOf, lsfSymbolsOf, streamSymbolsOf, packetSymbolsOf};
 use fec::Kind;
 use golay::Codeword;
 use protocol::LsfFrame;
@@ -315,9 +315,20 @@ fn to_symbols(sync: [u8; 2], body: [u8; 46]) -> [f32; 192]
     out
 }
 
+// The sync word of a kind.
+fn sync_of(kind: Kind) -> [u8; 2]
+    ensures { λ r. ⌜ r ≡ syncOf kind ⌝ }
+{
+    match kind {
+        Kind::Header => [0x55, 0xF7],
+        Kind::Stream => [0xFF, 0x5D],
+        Kind::Packet => [0x75, 0xFF],
+    }
+}
+
 // The symbols of a body, or its refusal.
-fn symbols_from(sync: [u8; 2], body: Body) -> Symbols
-    ensures { λ r. ⌜ r ≡ symbolsFrom sync body ⌝ }
+pub fn symbols_from(kind: Kind, body: Body) -> Symbols
+    ensures { λ r. ⌜ r ≡ symbolsFrom kind body ⌝ }
 {
     let answer = body.answer;
     match answer {
@@ -325,7 +336,7 @@ fn symbols_from(sync: [u8; 2], body: Body) -> Symbols
             let bytes = body.bytes;
             Symbols {
                 answer: Verdict::Done,
-                symbols: to_symbols(sync, bytes),
+                symbols: to_symbols(sync_of(kind), bytes),
             }
         }
         Verdict::Refused(why) => Symbols {
@@ -335,12 +346,30 @@ fn symbols_from(sync: [u8; 2], body: Body) -> Symbols
     }
 }
 
+// The symbols of a body of 46 bytes.
+pub fn body_symbols(kind: Kind, body: &[u8]) -> Symbols
+    ensures { λ r. ⌜ r ≡ bodySymbolsOf kind (now (body .entry)) ⌝ }
+{
+    if body.len() != 46 {
+        return symbols_from(kind, refused(Refusal::WrongLength));
+    }
+    let mut bytes = [0u8; 46];
+    copy(&mut bytes, 0, body);
+    symbols_from(
+        kind,
+        Body {
+            answer: Verdict::Done,
+            bytes,
+        },
+    )
+}
+
 // The symbols of a header frame.
 pub fn encode_lsf(frame: LsfFrame) -> Symbols
     ensures { λ r. ⌜ r ≡ lsfSymbolsOf frame ⌝ }
 {
     let bytes = frame.bytes;
-    symbols_from([0x55, 0xF7], write_lsf(&bytes))
+    symbols_from(Kind::Header, write_lsf(&bytes))
 }
 
 // The symbols of a stream frame.
@@ -356,7 +385,7 @@ pub fn encode_stream(frame: StreamFrame) -> Symbols
         frame.end_of_stream,
         &stream_data,
     );
-    symbols_from([0xFF, 0x5D], body)
+    symbols_from(Kind::Stream, body)
 }
 
 // The symbols of a packet frame.
@@ -365,5 +394,5 @@ pub fn encode_packet(frame: PacketFrame) -> Symbols
 {
     let payload = frame.payload;
     let counter = frame.counter;
-    symbols_from([0x75, 0xFF], write_packet(counter, &payload))
+    symbols_from(Kind::Packet, write_packet(counter, &payload))
 }

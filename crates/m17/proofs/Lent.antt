@@ -1,4 +1,4 @@
--- A buffer of n bytes lent for an answer, in each of its three cases. Assumes nothing.
+-- A buffer of n bytes, or symbols, lent for an answer, in each of its three cases. Assumes nothing.
 use mathlib.Core.Path.{_≡_, refl, subst, ap, _∙_}
 use mathlib.Core.Bool.{Bool, true, false, cond}
 use mathlib.Core.List.{List}
@@ -13,17 +13,17 @@ use Rattle.refusal.specs.declared.Verdict.the-variants.{Done, Refused}
 use Rattle.m17.specs.Given.{bytesGiven, numberGiven, lentSaid, lentBytes}
 
 -- r is what the call says, and b what the buffer holds after it
-abbrev pub Lent : ℕ → List ℕ → Verdict → List ℕ → ℕ → List ℕ → Type 0
+abbrev pub Lent : {A : Type 0} → ℕ → List A → Verdict → List A → ℕ → List A → Type 0
 Lent n old v bytes r b = (r ≡ lentSaid n old v) × (b ≡ lentBytes n old v bytes)
 
-module _ (n : ℕ) (old : List ℕ) (v : Verdict) (bytes : List ℕ) where
+module _ {A : Type 0} (n : ℕ) (old : List A) (v : Verdict) (bytes : List A) where
   pub when-wrong : (length old ≡ n → ⊥) → Lent n old v bytes 1 old
   when-wrong h = let e = ne-eqb (length old) n h in (simp e, simp e)
 
   pub when-refused : length old ≡ n → (why : Refusal) → v ≡ Refused why → (r : ℕ) → r ≡ numberOf why → Lent n old v bytes r old
   when-refused h why p r q = let e = eq-eqb (length old) n h in (simp (e, p, q), simp (e, p))
 
-  pub when-done : length old ≡ n → v ≡ Done → (b : List ℕ) → b ≡ bytes → Lent n old v bytes 0 b
+  pub when-done : length old ≡ n → v ≡ Done → (b : List A) → b ≡ bytes → Lent n old v bytes 0 b
   when-done h p b q = let e = eq-eqb (length old) n h in (simp (e, p), simp (e, p, q))
 
 -- an answer a known as v, and bytes b known as others, which matter only where they are written

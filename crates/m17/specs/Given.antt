@@ -22,7 +22,7 @@ abbrev pub bitGiven : Bit → ℕ → ℕ
 bitGiven (bit.Value b) old = b
 bitGiven (bit.Refused why) old = old
 
-abbrev pub bytesGiven : Verdict → List ℕ → List ℕ → List ℕ
+abbrev pub bytesGiven : {A : Type 0} → Verdict → List A → List A → List A
 bytesGiven verdict.Done bytes old = bytes
 bytesGiven (verdict.Refused why) bytes old = old
 
@@ -30,11 +30,11 @@ abbrev pub numberGiven : Verdict → ℕ → ℕ → ℕ
 numberGiven verdict.Done n old = n
 numberGiven (verdict.Refused why) n old = old
 
--- a buffer of n bytes lent for the answer: 1 where it has another length, before anything else
-abbrev pub lentSaid : ℕ → List ℕ → Verdict → ℕ
+-- a buffer of n bytes, or symbols, lent for the answer: 1 where it has another length, before anything else
+abbrev pub lentSaid : {A : Type 0} → ℕ → List A → Verdict → ℕ
 lentSaid n old v = cond (eqb (length old) n) (saidOf v) 1
 
-abbrev pub lentBytes : ℕ → List ℕ → Verdict → List ℕ → List ℕ
+abbrev pub lentBytes : {A : Type 0} → ℕ → List A → Verdict → List A → List A
 lentBytes n old v bytes = cond (eqb (length old) n) (bytesGiven v bytes old) old
 
 abbrev pub wordGiven : Codeword → ℕ → ℕ

@@ -2,9 +2,11 @@
 use address::Address;
 use address::Heard;
 use bits::Bit;
+use encode::Body;
 use golay::Codeword;
 use golay::Reading;
 use libc::STDOUT_FILENO;
+use protocol::PacketFrameCounter;
 use refusal::Verdict;
 
 fn wide(x: u8) -> u64 {
@@ -176,6 +178,35 @@ fn golay_read(word: u32) {
     end();
 }
 
+// ---- bodies
+
+fn body(label: &[u8], b: Body) {
+    text(label);
+    let answer = b.answer;
+    match answer {
+        Verdict::Done => {
+            let out = b.bytes;
+            bytes(&out);
+        }
+        Verdict::Refused(why) => refused(refusal::number(why)),
+    }
+    end();
+}
+
+fn packet_frame(index: usize) {
+    let counter = PacketFrameCounter::Frame { index };
+    text(b"packet frame ");
+    io::print_decimal(STDOUT_FILENO, index as u64);
+    body(b" of zeros:", encode::write_packet(counter, &[0u8; 25]));
+}
+
+fn final_frame(payload_len: usize) {
+    let counter = PacketFrameCounter::FinalFrame { payload_len };
+    text(b"final frame of ");
+    io::print_decimal(STDOUT_FILENO, payload_len as u64);
+    body(b" zeros:", encode::write_packet(counter, &[0u8; 25]));
+}
+
 fn main() {
     crc_of(b"crc of nothing:", b"");
     crc_of(b"crc of A:", b"A");
@@ -243,4 +274,14 @@ fn main() {
     golay_read(0x8118EA);
     golay_read(0x8118E8);
     golay_read(0x10018EB);
+    body(b"header of zeros:", encode::write_lsf(&[0u8; 30]));
+    body(
+        b"stream frame of zeros:",
+        encode::write_stream(0, &[0u8; 5], 0, false, &[0u8; 16]),
+    );
+    packet_frame(0);
+    packet_frame(31);
+    packet_frame(32);
+    final_frame(25);
+    final_frame(26);
 }

@@ -1,6 +1,7 @@
 -- `encode::encode_lsf` meets its contract. Assumes nothing.
 use mathlib.Core.Path.{ap, _∙_}
-use Rattle.encode.specs.Symbols.{symbolsFrom, headerSync, lsfSymbolsOf}
+use Rattle.fec.specs.declared.Kind.the-variants.{Header}
+use Rattle.encode.specs.Symbols.{symbolsFrom, lsfSymbolsOf}
 use borrow.Author.Needs.{needs}
 use Rattle.encode.proofs.encode_lsf.Statement.{statement}
 use Rattle.encode.proofs.encode_lsf.Tie as tie
@@ -16,7 +17,7 @@ symbols-from-requires c κs = search needs
 
 returns : tie.Need-returns
 unfolding lsfSymbolsOf
-returns c = c .symbols-from .ensures ∙ ap (symbolsFrom headerSync) (c .before .write-lsf .ensures)
+returns c = c .symbols-from .ensures ∙ ap (symbolsFrom Header) (c .before .write-lsf .ensures)
 
 pub encode-lsf-spec : {M : Type 1} → statement M
 encode-lsf-spec =

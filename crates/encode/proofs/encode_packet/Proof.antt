@@ -1,6 +1,7 @@
 -- `encode::encode_packet` meets its contract. Assumes nothing.
 use mathlib.Core.Path.{ap, _∙_}
-use Rattle.encode.specs.Symbols.{symbolsFrom, packetSync, packetSymbolsOf}
+use Rattle.fec.specs.declared.Kind.the-variants.{Packet}
+use Rattle.encode.specs.Symbols.{symbolsFrom, packetSymbolsOf}
 use borrow.Author.Needs.{needs}
 use Rattle.encode.proofs.encode_packet.Statement.{statement}
 use Rattle.encode.proofs.encode_packet.Tie as tie
@@ -16,7 +17,7 @@ symbols-from-requires c κs = search needs
 
 returns : tie.Need-returns
 unfolding packetSymbolsOf
-returns c = c .symbols-from .ensures ∙ ap (symbolsFrom packetSync) (c .before .write-packet .ensures)
+returns c = c .symbols-from .ensures ∙ ap (symbolsFrom Packet) (c .before .write-packet .ensures)
 
 pub encode-packet-spec : {M : Type 1} → statement M
 encode-packet-spec =

@@ -1,6 +1,7 @@
 -- `encode::encode_stream` meets its contract. Assumes nothing.
 use mathlib.Core.Path.{ap, _∙_}
-use Rattle.encode.specs.Symbols.{symbolsFrom, streamSync, streamSymbolsOf}
+use Rattle.fec.specs.declared.Kind.the-variants.{Stream}
+use Rattle.encode.specs.Symbols.{symbolsFrom, streamSymbolsOf}
 use borrow.Author.Needs.{needs}
 use Rattle.encode.proofs.encode_stream.Statement.{statement}
 use Rattle.encode.proofs.encode_stream.Tie as tie
@@ -19,7 +20,7 @@ symbols-from-requires c κs = search needs
 
 returns : tie.Need-returns
 unfolding streamSymbolsOf
-returns c = c .symbols-from .ensures ∙ ap (symbolsFrom streamSync) (c .before .write-stream .ensures)
+returns c = c .symbols-from .ensures ∙ ap (symbolsFrom Stream) (c .before .write-stream .ensures)
 
 pub encode-stream-spec : {M : Type 1} → statement M
 encode-stream-spec =

@@ -1,3 +1,4 @@
 pub mod Lent
 pub mod Heard
 pub mod Setting
+pub mod Parts

@@ -2,3 +2,4 @@ pub mod Given
 pub mod Kinds
 pub mod Fec
 pub mod Header
+pub mod Gathered

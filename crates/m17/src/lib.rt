@@ -13,6 +13,7 @@ ghost use Rattle.m17.specs.Given.{bitGiven, numberGiven, lentSaid, lentB
 ghost use Rattle.m17.specs.Fec.{kindFor, codedOf, readOf};
 ghost use Rattle.m17.specs.Kinds.{kindOf, reservedOf, addressFor, addressWrittenOf};
 
+mod gathered;
 mod header;
 
 use address::Address;

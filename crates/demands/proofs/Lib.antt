@@ -1,2 +1,3 @@
 pub mod Bench
 pub mod Demand2
+pub mod AsSeen

@@ -1,16 +1,17 @@
 -- What an answer says of its slot, and of what the slot did to state and memory. Assumes nothing.
-use mathlib.Core.Path.{_≡_, refl}
+use mathlib.Core.Path.{_≡_, refl, subst}
 use mathlib.Core.Bool.{Bool, true, false, cond}
 use mathlib.Core.List.{List}
 use Prim.Native.Nat.{ℕ, _+_, _*_}
 use lib.ListN.{take}
+use Rattle.refusal.specs.declared.Refusal.{Refusal}
 use Rattle.refusal.specs.declared.Refusal.the-variants.{OutOfTurn}
 use Rattle.refusal.specs.declared.Verdict.{Verdict}
 use Rattle.refusal.specs.declared.Verdict.the-variants.{Done, Refused}
 use Rattle.automaton.specs.Seen.{Seen, head, piece, final, stream, end, unread}
 use Rattle.automaton.specs.Step.{State, idle, Answer, header, stored, packet, fields, ended, refused, expects, pieces, judge, told, put, lateOf, next, answer, kept}
 
--- a stored piece changes its own bytes only, a final piece its length; any other answer leaves memory as it is, and a refusal leaves idle
+-- a stored piece changes its own bytes only, a final piece its length; any other answer leaves memory as it is
 abbrev pub ByAnswer : State → List ℕ → Seen → Answer → Type 0
 ByAnswer st m s (header h) = (s ≡ head h) × (kept st m s ≡ m)
 ByAnswer st m s (stored k) = (b : List ℕ) × (s ≡ piece k b) × (kept st m s ≡ put (25 * k) b m)
@@ -39,3 +40,6 @@ by-answer st m (final len b) = by-final (judge st m len b) st m len b refl
 by-answer st m (stream c p f) = (refl, refl, refl)
 by-answer st m end = (refl, refl)
 by-answer st m (unread why) = (refl, refl)
+
+pub refusal-idles : (st : State) (m : List ℕ) (s : Seen) (why : Refusal) → answer st m s ≡ refused why → next st s ≡ idle
+refusal-idles st m s why e = subst (ByAnswer st m s) e (by-answer st m s) .0

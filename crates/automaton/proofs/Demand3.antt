@@ -5,9 +5,10 @@ use mathlib.Core.Logic.{_↔_}
 use mathlib.Core.List.{List, _++_}
 use Prim.Native.Nat.{ℕ, _+_, _%_, _<_}
 use lib.ListN.{length, drop}
+use Rattle.refusal.specs.declared.Refusal.{Refusal}
 use Rattle.crc.specs.Crc.{crc}
 use Rattle.automaton.specs.Seen.{Fields, Seen, head, Sound}
-use Rattle.automaton.specs.Step.{State, packet, fields, late, spoiled, answer, kept}
+use Rattle.automaton.specs.Step.{State, idle, packet, fields, refused, late, spoiled, next, answer, kept}
 use Rattle.automaton.specs.Runs.{Slots, start, _▸_, _▸▸_, AllSound, Sounds, state, memory, said, Packet, part, Six, sent, sending}
 use Rattle.automaton.proofs.ByAnswer as ByAnswer
 use Rattle.automaton.proofs.ByAnswer.{ByAnswer}
@@ -31,9 +32,10 @@ pub record OverSeen : Type 0 where
   -- Memory is then the packet's bytes, and after them what it held at the packet's header.
   pub only-those : (m : List ℕ) (gone : Slots) → AllSound gone → (s : Seen) → Sound s → (bytes : List ℕ) (k : Packet gone s bytes)
       → kept (state gone) (memory m gone) s ≡ bytes ++ drop (length bytes) (memory m (k .before ▸ head (k .h)))
-  -- In any state a stored piece changes its own 25 bytes only, and a final piece its length; any other answer leaves memory as it is, and a
-  -- refusal leaves the receiver idle.
+  -- In any state a stored piece changes its own 25 bytes only, and a final piece its length; any other answer leaves memory as it is.
   pub by-answer : (st : State) (m : List ℕ) (s : Seen) → ByAnswer st m s (answer st m s)
+  -- A refusal leaves the receiver idle.
+  pub refusal-idles : (st : State) (m : List ℕ) (s : Seen) (why : Refusal) → answer st m s ≡ refused why → next st s ≡ idle
   -- A late header comes exactly when the last six slots are stream slots counted 0 to 5 with CRC zero.
   pub late-header : (m : List ℕ) (gone : Slots) (s : Seen) (c : ℕ) (p : List ℕ) (f : Fields) (bytes : List ℕ)
       → (said m gone s .answer ≡ fields c p f (late bytes)) ↔ ((c ≡ 5) × Six gone s p f bytes × (crc bytes ≡ 0))
@@ -55,6 +57,7 @@ over-seen =
       handed-out = HandedOut.handed-out;
       only-those = HandedOut.only-those;
       by-answer = ByAnswer.by-answer;
+      refusal-idles = ByAnswer.refusal-idles;
       late-header = LateHeader.late-header;
       spoiled-mark = LateHeader.spoiled-mark;
       eleven = Eleven.eleven;

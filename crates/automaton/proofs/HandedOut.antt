@@ -26,11 +26,10 @@ module _ (m : List ℕ) (gone : Slots) (os : AllSound gone) where
   -- ---- a packet is handed out
 
   module _ (s : Seen) (o : Sound s) (bytes : List ℕ) (k : Packet gone s bytes) where
-    n : ℕ
+    abbrev n : ℕ
     n = length (k .bs)
 
     pieces-held : Held m (memory m (k .before ▸ head (k .h))) gone n (join (k .bs))
-    unfolding n
     pieces-held = held m gone (k .before) (k .h) (k .bs) (k .slots) (k .packets) os
 
     long : (length (take (k .len) (k .b)) ≡ k .len) × (length bytes ≡ 25 * n + k .len)

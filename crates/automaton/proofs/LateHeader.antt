@@ -16,11 +16,8 @@ use Rattle.automaton.proofs.ByAnswer.{ByAnswer, by-answer}
 use Rattle.automaton.proofs.Opened.{Counted, Opened, opened}
 
 -- more than the fields is answered of six slots counted 0 to 5
-record Sixth (gone : Slots) (s : Seen) (c : ℕ) (p : List ℕ) (f : Fields) (l : Late) : Type 0 where
-  five : c ≡ 5
-  bytes : List ℕ
-  six : Six gone s p f bytes
-  brought : l ≡ whole bytes
+abbrev Sixth : Slots → Seen → ℕ → List ℕ → Fields → Late → Type 0
+Sixth gone s c p f l = (c ≡ 5) × (bytes : List ℕ) × Six gone s p f bytes × (l ≡ whole bytes)
 
 six-counted : (gone : Slots) (s : Seen) (p : List ℕ) (f : Fields) (q : List ℕ) → s ≡ stream 5 p f → Counted 5 q gone → Six gone s p f (q ++ p)
 six-counted gone s p f q e g =
@@ -55,12 +52,8 @@ sixth-only gone s c p f l more e idle o true true ex ey is = never (cc)
 sixth-only gone s c p f l more e (inPacket n) o true true ex ey is = never (cc)
 sixth-only gone s c p f l more e (gathering k q) o true true ex ey is =
     let five : c ≡ 5 = eqb-true c 5 ex in
-    record {
-      five = five;
-      bytes = q ++ p;
-      six = six-counted gone s p f q (e ∙ ap (λ (i : ℕ). stream i p f) five) (subst (λ (i : ℕ). Counted i q gone) (eqb-true k 5 ey) (o .2));
-      brought = is;
-    }
+    let counted : Counted 5 q gone = rw (eqb-true k 5 ey) at (o .2) in
+    (five, q ++ p, six-counted gone s p f q (e ∙ ap (λ (i : ℕ). stream i p f) five) counted, is)
 
 whole-late : (x : Bool) (q bytes : List ℕ) → eqb (crc q) 0 ≡ x → late bytes ≡ cond x (late q) spoiled → (q ≡ bytes) × (crc q ≡ 0)
 whole-late true q bytes ex e = (cc, eqb-true (crc q) 0 ex)
@@ -87,9 +80,9 @@ module _ (m : List ℕ) (gone : Slots) (s : Seen) (c : ℕ) (p : List ℕ) (f : 
     where
       only : said m gone s .answer ≡ fields c p f (late bytes) → (c ≡ 5) × Six gone s p f bytes × (crc bytes ≡ 0)
       only e =
-          let k = six-only (late bytes) (λ z. never (cc)) e in
-          let (same, good) = whole-late _ (k .bytes) bytes refl (k .brought) in
-          subst (λ (x : List ℕ). (c ≡ 5) × Six gone s p f x × (crc x ≡ 0)) same (k .five, k .six, good)
+          let (five, q, six, is) = six-only (late bytes) (λ z. never (cc)) e in
+          let (same, good) = whole-late _ q bytes refl is in
+          subst (λ (x : List ℕ). (c ≡ 5) × Six gone s p f x × (crc x ≡ 0)) same (five, six, good)
 
       if : (c ≡ 5) × Six gone s p f bytes × (crc bytes ≡ 0) → said m gone s .answer ≡ fields c p f (late bytes)
       if k = six-said bytes _ (k .0) (k .1) (rw (eq-eqb (crc bytes) 0 (k .2)))
@@ -99,8 +92,8 @@ module _ (m : List ℕ) (gone : Slots) (s : Seen) (c : ℕ) (p : List ℕ) (f : 
     where
       only : said m gone s .answer ≡ fields c p f spoiled → (c ≡ 5) × (bytes : List ℕ) × Six gone s p f bytes × (crc bytes ≡ 0 → ⊥)
       only e =
-          let k = six-only spoiled (λ z. never (cc)) e in
-          (k .five, k .bytes, k .six, whole-spoiled _ (k .bytes) refl (k .brought))
+          let (five, q, six, is) = six-only spoiled (λ z. never (cc)) e in
+          (five, q, six, whole-spoiled _ q refl is)
 
       if : (c ≡ 5) × (bytes : List ℕ) × Six gone s p f bytes × (crc bytes ≡ 0 → ⊥) → said m gone s .answer ≡ fields c p f spoiled
       if k = six-said (k .1) _ (k .0) (k .2) (rw (ne-eqb (crc (k .1)) 0 (k .3)))

@@ -9,7 +9,7 @@ use lib.ListN.{length, length-append}
 use lib.Dec.{eqb}
 use borrow.Author.Tests.{eqb-true, eqb-false}
 use Rattle.automaton.specs.Seen.{Fields, Seen, head, piece, final, stream, end, unread, isStream}
-use Rattle.automaton.specs.Step.{State, idle, inPacket, gathering, count, parts, next}
+use Rattle.automaton.specs.Step.{State, idle, inPacket, gathering, expects, count, parts, next}
 use Rattle.automaton.specs.Runs.{Slots, start, _▸_, _▸▸_, state, numbered}
 use Rattle.automaton.proofs.Cases.{by-test}
 
@@ -79,7 +79,7 @@ opened-next st past (head h) o =
     (λ e. record { before = past; h = h; bs = []; slots = refl; packets = e; many = refl })
 opened-next idle past (piece k b) o = tt
 opened-next (inPacket n) past (piece k b) o =
-    by-test (λ (x : State). Opened x (past ▸ piece k b)) (eqb k n) (λ e. opened-piece past n k b (eqb-true k n e) o) (λ e. tt)
+    by-test (λ (x : State). Opened x (past ▸ piece k b)) (expects (inPacket n) k) (λ e. opened-piece past n k b (eqb-true k n e) o) (λ e. tt)
 opened-next (gathering i q) past (piece k b) o = tt
 opened-next st past (final len b) o = tt
 opened-next st past (stream c p f) o = opened-stream st past c p f o

@@ -3,7 +3,7 @@ use mathlib.Core.Path.{_≡_, refl}
 use mathlib.Core.Bool.{Bool, true, false, cond}
 use Prim.Native.Nat.{ℕ, _+_, _*_, _≤_}
 use native.Mathlib.Omega.{arith}
-use lib.Dec.{eqb, ltb}
+use lib.Dec.{eqb}
 use borrow.Author.Tests.{eqb-true, eqb-false, ltb-false, eq-eqb, ne-eqb, le-ltb}
 use Rattle.refusal.specs.declared.Refusal.{Refusal}
 use Rattle.refusal.specs.declared.Verdict.{Verdict}
@@ -29,15 +29,11 @@ pub good-only : (n len sum : ℕ) → verdict n len sum ≡ Done → Good n len 
 unfolding verdict
 good-only n len sum e =
     let a = passed (eqb len 0) _ _ e in
-    let b = passed (ltb 25 len) _ _ (a .1) in
-    let c = passed (ltb (25 * n + len) 3) _ _ (b .1) in
     let nz : (len ≡ 0 → ⊥) = eqb-false len 0 (a .0) in
-    record {
-      least = omega arith;
-      most = ltb-false _ _ (b .0);
-      three = ltb-false _ _ (c .0);
-      zero-crc = eqb-true _ _ (zero-only (eqb sum 0) _ (c .1));
-    }
+    let least : 1 ≤ len = omega arith in
+    let b = passed _ _ _ (a .1) in
+    let c = passed _ _ _ (b .1) in
+    record { least = least; most = ltb-false _ _ (b .0); three = ltb-false _ _ (c .0); zero-crc = eqb-true _ _ (zero-only _ _ (c .1)) }
 
 pub good-if : (n len sum : ℕ) → Good n len sum → verdict n len sum ≡ Done
 unfolding verdict

@@ -17,7 +17,6 @@ use Rattle.receiver.specs.See.{see}
 use Rattle.receiver.specs.Receiver.{receiverFor, receivedOf, memoryOf}
 
 infixl 25 _▹_ _▹▹_
-
 -- slots of bytes in the order in which they came, of any lengths
 pub data Fed : Type 0 where
   start : Fed

@@ -187,8 +187,9 @@ fn piece_step(n: usize, number: usize, frame: &[u8], memory: &mut [u8]) -> Recei
     if number != n {
         return closed(Refusal::OutOfTurn);
     }
+    let next = n + 1;
     store(memory, 25 * n, frame);
-    told(Answer::Stored(n), [0u8; 30], Phase::Packet(n + 1))
+    told(Answer::Stored(n), [0u8; 30], Phase::Packet(next))
 }
 
 // A final packet frame after n frames: it is stored only when the packet is handed out.
@@ -203,7 +204,8 @@ fn final_step(n: usize, len: usize, frame: &[u8], memory: &mut [u8]) -> Received
         return closed(Refusal::BadFinal);
     }
     let at = 25 * n;
-    if at + len < 3 {
+    let total = at + len;
+    if total < 3 {
         return closed(Refusal::TooShort);
     }
     let last = &frame[..len];
@@ -212,7 +214,7 @@ fn final_step(n: usize, len: usize, frame: &[u8], memory: &mut [u8]) -> Received
         return closed(Refusal::BadPacket);
     }
     store(memory, at, last);
-    told(Answer::Packet(at + len), [0u8; 30], Phase::Idle)
+    told(Answer::Packet(total), [0u8; 30], Phase::Idle)
 }
 
 // Is the state one that a receiver comes to?

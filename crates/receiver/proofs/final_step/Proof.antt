@@ -28,8 +28,8 @@ returns-2 c =
 mul-at : tie.Need-mul-at
 mul-at c = search needs
 
-add-if3 : tie.Need-add-if3
-add-if3 c = search needs
+add-total : tie.Need-add-total
+add-total c = search needs
 
 closed-requires-3 : tie.Need-closed-requires-3
 closed-requires-3 c κs = search needs
@@ -85,9 +85,6 @@ store-requires c κs =
     let a = t .args in
     omega (arith, t .pre .0, t .pre .1, three .before .if2 .left, length-take-le (a .len) (a .frame .now) (omega (arith, three .before .if2 .left, t .pre .2)))
 
-add-t11 : tie.Need-add-t11
-add-t11 c = search needs
-
 told-requires : tie.Need-told-requires
 told-requires c κs = search needs
 
@@ -114,7 +111,7 @@ final-step-spec =
     closed-requires-2
     returns-2
     mul-at
-    add-if3
+    add-total
     closed-requires-3
     returns-3
     slice-aggregate-last
@@ -126,7 +123,6 @@ final-step-spec =
     same-length
     returns-4
     store-requires
-    add-t11
     told-requires
     same-length-2
     returns-5)

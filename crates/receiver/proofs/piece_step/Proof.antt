@@ -12,14 +12,14 @@ returns c =
     let a = c .before .before .before .before .args in
     piece-other (a .n) (a .number) (a .frame .now) (a .memory .now) (a .memory .now) _ (c .before .if1 .taken) (c .closed .ensures)
 
+add-next : tie.Need-add-next
+add-next c = search needs
+
 mul-store : tie.Need-mul-store
 mul-store c = search needs
 
 store-requires : tie.Need-store-requires
 store-requires c κs = search needs
-
-add-t10 : tie.Need-add-t10
-add-t10 c = search needs
 
 told-requires : tie.Need-told-requires
 told-requires c κs = search needs
@@ -39,9 +39,9 @@ piece-step-spec =
     (tie.spec
     closed-requires
     returns
+    add-next
     mul-store
     store-requires
-    add-t10
     told-requires
     same-length
     returns-2)

@@ -86,17 +86,17 @@ pub record Demand2 : Type 0 where
   pub packet-one : (f g : PacketFrame) → Packet f → Packet g → packetBody f ≡ packetBody g → trimmed f ≡ trimmed g
 
 module _ (f : LsfFrame) (h : Header f) where
-  header-read : lsfReadOf (lsfBodyOf (f .bytes) .bytes) ≡ record { answer = Done; frame = f }
+  pub header-read : lsfReadOf (lsfBodyOf (f .bytes) .bytes) ≡ record { answer = Done; frame = f }
   header-read = lsf-back (f .bytes) (h .long) (h .bytes)
 
 module _ (f : StreamFrame) (h : Stream f) where
-  stream-read : streamReadOf (streamBody f) ≡ record { answer = Done; frame = f }
+  pub stream-read : streamReadOf (streamBody f) ≡ record { answer = Done; frame = f }
   stream-read =
       back.stream-back (f .«lich_idx») (f .«lich_part») (f .«frame_number») (f .«end_of_stream») (f .«stream_data») (h .index) (h .part-long) (h .part)
       (h .number) (h .long) (h .bytes)
 
 module _ (f : PacketFrame) (h : Packet f) where
-  packet-read : packetReadOf (packetBody f) ≡ record { answer = Done; frame = trimmed f }
+  pub packet-read : packetReadOf (packetBody f) ≡ record { answer = Done; frame = trimmed f }
   packet-read = back.packet-back (f .counter) (f .payload) (h .number) (h .long) (h .bytes)
 
 pub demand-2 : Demand2

@@ -1,0 +1,11 @@
+pub mod Cases
+pub mod ByAnswer
+pub mod Verdicts
+pub mod Opened
+pub mod Held
+pub mod Fresh
+pub mod HandedOut
+pub mod LateHeader
+pub mod Eleven
+pub mod Bounds
+pub mod Demand3

@@ -1,0 +1,4 @@
+pub mod Taken
+pub mod Gather
+pub mod Pieces
+pub mod Whole

@@ -13,7 +13,8 @@ use Rattle.protocol.specs.declared.LsfFrame.{LsfFrame}
 use Rattle.protocol.specs.declared.StreamFrame.{StreamFrame}
 use Rattle.protocol.specs.declared.PacketFrame.{PacketFrame}
 use Rattle.encode.specs.Bodies.{lsfBodyOf}
-use Rattle.encode.specs.Symbols.{headerSync, streamSync, packetSync}
+use Rattle.fec.specs.declared.Kind.the-variants as kind
+use Rattle.encode.specs.Symbols.{syncOf}
 use Rattle.decode.specs.declared.LsfRead.{LsfRead}
 use Rattle.decode.specs.declared.StreamRead.{StreamRead}
 use Rattle.decode.specs.declared.PacketRead.{PacketRead}
@@ -23,13 +24,13 @@ use Rattle.receiver.specs.See.{headerSeen, streamFields, streamSeen, counted, p
 use Rattle.demands.proofs.Demand2.{Header, Stream, Packet, streamBody, packetBody, trimmed, header-read, stream-read, packet-read}
 
 abbrev pub headerSlot : List ℕ → List ℕ
-headerSlot h = headerSync ++ lsfBodyOf h .bytes
+headerSlot h = syncOf kind.Header ++ lsfBodyOf h .bytes
 
 abbrev pub streamSlot : StreamFrame → List ℕ
-streamSlot f = streamSync ++ streamBody f
+streamSlot f = syncOf kind.Stream ++ streamBody f
 
 abbrev pub packetSlot : PacketFrame → List ℕ
-packetSlot f = packetSync ++ packetBody f
+packetSlot f = syncOf kind.Packet ++ packetBody f
 
 -- a body that reads has 46 bytes, so its slot has 48
 module _ (h : List ℕ) (o : Header (record { bytes = h })) (good : crc h ≡ 0) where

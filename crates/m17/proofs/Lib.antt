@@ -2,3 +2,4 @@ pub mod Lent
 pub mod Heard
 pub mod Setting
 pub mod Memory
+pub mod Parts

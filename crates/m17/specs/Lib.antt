@@ -3,3 +3,4 @@ pub mod Kinds
 pub mod Fec
 pub mod Header
 pub mod Frames
+pub mod Gathered

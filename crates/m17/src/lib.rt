@@ -14,6 +14,7 @@ ghost use Rattle.m17.specs.Fec.{kindFor, codedOf, readOf};
 ghost use Rattle.m17.specs.Kinds.{kindOf, reservedOf, addressFor, addressWrittenOf};
 
 mod frames;
+mod gathered;
 mod header;
 
 use address::Address;

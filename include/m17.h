@@ -65,4 +65,42 @@ uint8_t m17_set_segment(uint8_t *parts, size_t parts_len, uint8_t *set, size_t s
 uint8_t m17_try_assemble(const uint8_t *parts, size_t parts_len, const uint8_t *set, size_t set_len,
                          uint8_t *assembled, uint8_t *out, size_t out_len);                               /* 30, 6, 30 */
 
+/* ---- LICH: 12 bytes */
+uint8_t m17_encode_lich(uint8_t counter, const uint8_t *part, size_t part_len, uint8_t *out, size_t out_len);    /* 5, 12 */
+uint8_t m17_decode_lich(const uint8_t *lich, size_t lich_len, uint8_t *counter, uint8_t *part, size_t part_len); /* 12, 5 */
+
+/* ---- bodies: 46 bytes */
+uint8_t m17_write_lsf(const uint8_t *header, size_t header_len, uint8_t *out, size_t out_len);
+uint8_t m17_read_lsf(const uint8_t *body, size_t body_len, uint8_t *out, size_t out_len);
+/* end_of_stream: 0 no, anything else yes; read as 0 or 1 */
+uint8_t m17_write_stream(uint8_t lich_idx, const uint8_t *lich_part, size_t lich_part_len, uint16_t frame_number,
+                         uint8_t end_of_stream, const uint8_t *stream_data, size_t stream_data_len,
+                         uint8_t *out, size_t out_len);                                                   /* 5, 16, 46 */
+uint8_t m17_read_stream(const uint8_t *body, size_t body_len, uint8_t *lich_idx, uint8_t *lich_part, size_t lich_part_len,
+                        uint16_t *frame_number, uint8_t *end_of_stream, uint8_t *stream_data, size_t stream_data_len);
+/* final_frame: 0 a frame with its index, anything else the final frame with its length; read as 0 or 1 */
+uint8_t m17_write_packet(uint8_t final_frame, size_t number, const uint8_t *payload, size_t payload_len,
+                         uint8_t *out, size_t out_len);                                                   /* 25, 46 */
+uint8_t m17_read_packet(const uint8_t *body, size_t body_len, uint8_t *final_frame, size_t *number,
+                        uint8_t *payload, size_t payload_len);
+
+/* ---- symbols: 192 f32, the eight of the sync word first, which no reading looks at */
+/* kind as above, judged after the lengths */
+uint8_t m17_body_to_symbols(uint8_t kind, const uint8_t *body, size_t body_len, float *out, size_t out_len);
+uint8_t m17_symbols_to_body(const float *symbols, size_t symbols_len, uint8_t *out, size_t out_len);
+/* the coded bytes of the body: un-xored, and brought back to coded order */
+uint8_t m17_frame_initial_decode(const float *symbols, size_t symbols_len, uint8_t *out, size_t out_len);
+uint8_t m17_encode_lsf(const uint8_t *header, size_t header_len, float *out, size_t out_len);
+uint8_t m17_encode_stream(uint8_t lich_idx, const uint8_t *lich_part, size_t lich_part_len, uint16_t frame_number,
+                          uint8_t end_of_stream, const uint8_t *stream_data, size_t stream_data_len,
+                          float *out, size_t out_len);
+uint8_t m17_encode_packet(uint8_t final_frame, size_t number, const uint8_t *payload, size_t payload_len,
+                          float *out, size_t out_len);
+uint8_t m17_parse_lsf(const float *symbols, size_t symbols_len, uint8_t *out, size_t out_len);
+uint8_t m17_parse_stream(const float *symbols, size_t symbols_len, uint8_t *lich_idx, uint8_t *lich_part,
+                         size_t lich_part_len, uint16_t *frame_number, uint8_t *end_of_stream,
+                         uint8_t *stream_data, size_t stream_data_len);
+uint8_t m17_parse_packet(const float *symbols, size_t symbols_len, uint8_t *final_frame, size_t *number,
+                         uint8_t *payload, size_t payload_len);
+
 #endif

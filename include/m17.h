@@ -103,4 +103,37 @@ uint8_t m17_parse_stream(const float *symbols, size_t symbols_len, uint8_t *lich
 uint8_t m17_parse_packet(const float *symbols, size_t symbols_len, uint8_t *final_frame, size_t *number,
                          uint8_t *payload, size_t payload_len);
 
+/* ---- the slot receiver: slots of 48 bytes, and 825 bytes of packet memory lent at each call and left alone between calls */
+
+/* A receiver's state. phase: 0 idle, 1 in a packet expecting frame `count`, 2 gathering with `count` parts, which stand at the
+ * start of `parts`, five bytes each. A count over 32 in phase 1 or over 5 in phase 2, or any other phase, is refused with 12. */
+typedef struct {
+    size_t count;
+    uint8_t phase;
+    uint8_t parts[30];
+} m17_receiver;
+
+/* What a slot is answered with. `said` is 0 or the number of the refusal: 1, 3, 4, 5 or 7 to 12. `next` is the state to hand
+ * in with the next slot; 1 and 12 leave it as it was given, any other refusal makes it idle. What an answer does not carry is 0.
+ * answer: 0 refused; 1 a header, its bytes in `header`; 2 a piece stored, its number in `number`; 3 a packet handed out,
+ * `number` bytes from the start of the packet memory, its two CRC bytes included; 4 stream fields; 5 stream fields with a late
+ * header, its bytes in `header`; 6 stream fields after six parts whose CRC is not zero; 7 the end of a transmission. */
+typedef struct {
+    size_t number;
+    m17_receiver next;
+    uint16_t frame_number;
+    uint8_t said;
+    uint8_t answer;
+    uint8_t header[30];
+    uint8_t lich_idx;
+    uint8_t lich_part[5];
+    uint8_t end_of_stream;
+    uint8_t stream_data[16];
+} m17_received;
+
+m17_receiver m17_receiver_new(void);
+
+/* A stored piece changes its 25 bytes of the packet memory, a packet handed out its final piece's bytes; nothing else does. */
+m17_received m17_receive(m17_receiver state, const uint8_t *slot, size_t slot_len, uint8_t *memory, size_t memory_len); /* 48, 825 */
+
 #endif

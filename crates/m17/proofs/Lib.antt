@@ -3,3 +3,4 @@ pub mod Heard
 pub mod Setting
 pub mod Memory
 pub mod Parts
+pub mod Crossed

@@ -4,3 +4,4 @@ pub mod Fec
 pub mod Header
 pub mod Frames
 pub mod Gathered
+pub mod Receiving

@@ -1,7 +1,6 @@
 // LICHs, bodies and symbols for C. A frame crosses as its fields: a number for yes and no, 0 or anything else, and a number beside
 // `final_frame` that is an index or a length.
 ghost use mathlib.Core.Path.{_≡_};
-ghost use Rattle.bits.specs.Bits.{bit};
 ghost use Rattle.encode.specs.Lich.{lichOf};
 ghost use Rattle.encode.specs.Bodies.{lsfBodyOf, streamBodyOf, packetBodyOf};
 ghost use Rattle.encode.specs.Symbols.{unsent, lsfSymbolsOf, streamSymbolsOf, packetSymbolsOf};
@@ -10,6 +9,7 @@ ghost use Rattle.decode.specs.Bodies.{lsfReadOf, streamReadOf, packetReadOf};
 ghost use Rattle.decode.specs.Symbols.{bodyReadOf, initialOf, lsfParsedOf, streamParsedOf, packetParsedOf};
 ghost use Rattle.m17.specs.Given.{lentSaid, lentBytes};
 ghost use Rattle.m17.specs.Frames.{yes, counterFor, finalOf, numberIn, lsfFrame, streamFrame, packetFrame, framedOf, lichMemory, LichLent, streamMemory, StreamLent, packetMemory, PacketLent};
+use super::flag;
 use super::give;
 use super::kind_for;
 use decode::Counted;
@@ -40,15 +40,6 @@ fn give_lsf(read: LsfRead, out: &mut [u8]) -> u8
     let frame = read.frame;
     let bytes = frame.bytes;
     give(answer, &bytes, out)
-}
-
-fn flag(yes: bool) -> u8
-    ensures { λ r. ⌜ r ≡ bit yes ⌝ }
-{
-    if yes {
-        return 1;
-    }
-    0
 }
 
 // A stream frame that was read. The lengths of what is lent are judged first.

@@ -3,6 +3,7 @@
 ghost use mathlib.Core.Path.{_≡_};
 ghost use lib.ListN.{length};
 ghost use Rattle.refusal.specs.Number.{saidOf};
+ghost use Rattle.bits.specs.Bits.{bit};
 ghost use Rattle.bits.specs.Places.{getOf, setOf, withBit, numberOfBit};
 ghost use Rattle.crc.specs.Crc.{crcFrom, crc};
 ghost use Rattle.random.specs.Random.{xored};
@@ -16,6 +17,7 @@ ghost use Rattle.m17.specs.Kinds.{kindOf, reservedOf, addressFor, addres
 mod frames;
 mod gathered;
 mod header;
+mod receiving;
 
 use address::Address;
 use address::Heard;
@@ -58,6 +60,39 @@ fn give_number(answer: Verdict, number: u8, out: &mut u8) -> u8
         }
         Verdict::Refused(why) => refusal::number(why),
     }
+}
+
+// A receiver's state. The phase: 0 idle, 1 in a packet expecting frame `count`, 2 gathering with `count` parts.
+#[repr(C)]
+pub struct M17Receiver {
+    pub count: usize,
+    pub phase: u8,
+    pub parts: [u8; 30],
+}
+
+// What a slot is answered with, and the next state.
+#[repr(C)]
+pub struct M17Received {
+    pub number: usize,
+    pub next: M17Receiver,
+    pub frame_number: u16,
+    pub said: u8,
+    pub answer: u8,
+    pub header: [u8; 30],
+    pub lich_idx: u8,
+    pub lich_part: [u8; 5],
+    pub end_of_stream: u8,
+    pub stream_data: [u8; 16],
+}
+
+// Yes and no as a number.
+fn flag(yes: bool) -> u8
+    ensures { λ r. ⌜ r ≡ bit yes ⌝ }
+{
+    if yes {
+        return 1;
+    }
+    0
 }
 
 #[no_mangle]

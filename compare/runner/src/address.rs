@@ -36,7 +36,7 @@ fn addresses(random: &mut Random, wanted: &Wanted, take: Take) -> Result<(), Sto
             take(&value.to_be_bytes()[2..])?;
         }
     }
-    for _ in 0..wanted.many(100_000) {
+    for _ in 0..wanted.many_or(20_000, 100_000) {
         take(&random.bytes(6))?;
     }
     // The reserved range is a fifteenth of all, so it is also asked for by itself.
@@ -101,7 +101,7 @@ fn to_write(random: &mut Random, wanted: &Wanted, take: Take) -> Result<(), Stop
     let mut give =
         |kind: u8, value: u64, callsign: &[u8]| take(&[&[kind], &value.to_be_bytes()[..], callsign].concat());
     let lower = ALPHABET.map(|byte| byte.to_ascii_lowercase());
-    for _ in 0..wanted.many(50_000) {
+    for _ in 0..wanted.many_or(10_000, 50_000) {
         let mut callsign: Vec<u8> = (0..9).map(|_| ALPHABET[random.below(40)]).collect();
         give(1, 0, &callsign)?;
         // Spaces after a shorter callsign, and one before or within it.

@@ -71,12 +71,14 @@ fn looked_at(ours: &Collection, rust: &LichCollection) -> Said {
     same(Ok(rust.try_assemble()), ours::try_assemble(ours), |said| shown(said, show))
 }
 
-/// What our memory has to be after a part is set: five bytes and one flag are changed.
+/// What our memory has to be after a part is set: five bytes are changed, and all six flags are written as 0 or 1.
+/// The document has no flags in bytes: that others than 0 and 1 become 1 is what include/m17.h says.
 fn with(before: &Collection, counter: u8, part: &[u8]) -> Collection {
     let mut after = *before;
     let counter = counter as usize;
     after.parts[5 * counter..5 * counter + 5].copy_from_slice(part);
     after.set[counter] = 1;
+    after.set = after.set.map(|flag| (flag != 0) as u8);
     after
 }
 

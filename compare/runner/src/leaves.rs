@@ -287,7 +287,7 @@ fn words(random: &mut Random, wanted: &Wanted, take: Take) -> Result<(), Stop> {
             }
         }
     }
-    for _ in 0..wanted.many_or(20_000, 200_000) {
+    for _ in 0..wanted.many_or(10_000, 200_000) {
         word(random.number() as u32 >> 8)?;
     }
     for _ in 0..1000 {

@@ -1,0 +1,148 @@
+// What the receiver answers, which state comes next and what became of memory, in words and hex.
+use libc::STDOUT_FILENO;
+use protocol::StreamFrame;
+use receiver::Answer;
+use receiver::Late;
+use receiver::Phase;
+use receiver::Receiver;
+
+fn wide(x: u8) -> u64 {
+    x as u64
+}
+
+pub fn text(s: &[u8]) {
+    io::write_all(STDOUT_FILENO, s);
+}
+
+pub fn decimal(n: usize) {
+    io::print_decimal(STDOUT_FILENO, n as u64);
+}
+
+pub fn hex(n: u16, width: usize) {
+    io::print_hex(STDOUT_FILENO, n as u64, width);
+}
+
+// A word and a number.
+pub fn counted(label: &[u8], n: usize) {
+    text(label);
+    decimal(n);
+}
+
+pub fn bytes(s: &[u8]) {
+    text(b" ");
+    for i in 0..s.len() {
+        io::print_hex(STDOUT_FILENO, wide(s[i]), 2);
+    }
+}
+
+// The packet that memory begins with.
+fn packet(memory: &[u8], total: usize) {
+    counted(b"packet of ", total);
+    if total <= memory.len() {
+        bytes(&memory[..total]);
+    }
+}
+
+fn fields(stream: StreamFrame) {
+    let part = stream.lich_part;
+    let content = stream.stream_data;
+    io::print_decimal(STDOUT_FILENO, wide(stream.lich_idx));
+    bytes(&part);
+    text(b" number ");
+    hex(stream.frame_number, 4);
+    bytes(&content);
+    if stream.end_of_stream {
+        text(b" last");
+    }
+}
+
+fn late(brings: Late, header: [u8; 30]) {
+    match brings {
+        Late::Nothing => {}
+        Late::Header => {
+            text(b" late header");
+            bytes(&header);
+        }
+        Late::Spoiled => text(b" spoiled"),
+    }
+}
+
+pub fn answer(said: Answer, header: [u8; 30], stream: StreamFrame, memory: &[u8]) {
+    text(b": ");
+    match said {
+        Answer::Header => {
+            text(b"header");
+            bytes(&header);
+        }
+        Answer::Stored(n) => counted(b"stored ", n),
+        Answer::Packet(total) => packet(memory, total),
+        Answer::Stream(brings) => {
+            text(b"fields ");
+            fields(stream);
+            late(brings, header);
+        }
+        Answer::Ended => text(b"end"),
+        Answer::Refused(why) => {
+            text(b"refused ");
+            io::print_decimal(STDOUT_FILENO, wide(refusal::number(why)));
+        }
+    }
+}
+
+pub fn state(next: Receiver) {
+    let phase = next.phase;
+    let parts = next.parts;
+    text(b" | ");
+    match phase {
+        Phase::Idle => text(b"idle"),
+        Phase::Packet(n) => counted(b"packet ", n),
+        Phase::Gathering(k) => {
+            counted(b"gathering ", k);
+            bytes(&parts);
+        }
+    }
+}
+
+fn differs(old: &[u8], new: &[u8], place: usize) -> bool {
+    if place < old.len() {
+        if place < new.len() {
+            return old[place] != new[place];
+        }
+    }
+    false
+}
+
+// The first place that differs, or the length.
+fn first(old: &[u8], new: &[u8]) -> usize {
+    let mut at = 0;
+    while at < new.len() {
+        if differs(old, new, at) {
+            return at;
+        }
+        at += 1;
+    }
+    at
+}
+
+// The last place that differs, or 0.
+fn last(old: &[u8], new: &[u8]) -> usize {
+    let mut found = 0;
+    for i in 0..new.len() {
+        if differs(old, new, i) {
+            found = i;
+        }
+    }
+    found
+}
+
+// Which places of memory changed: the first and the last, or a dash.
+pub fn changes(old: &[u8], new: &[u8]) {
+    let from = first(old, new);
+    if from < new.len() {
+        counted(b" | ", from);
+        counted(b" to ", last(old, new));
+        text(b"\n");
+    } else {
+        text(b" | -\n");
+    }
+}

@@ -122,9 +122,8 @@ fn spoiled_reading() -> Vec<Slot> {
 
 /// Frame 1 of four is lost.
 fn reading_with_a_gap() -> Vec<Slot> {
-    let mut frames = packet_slots(&message(
-        "Probe 8: pH slope 58.4 mV, offset 0.6 mV, water 12.5 C; next reading in 15 minutes",
-    ));
+    let mut frames =
+        packet_slots(&message("Probe 8: pH slope 58.4 mV, offset 0.6 mV, water 12.5 C; next reading in 15 minutes"));
     frames.remove(1);
     [vec![header_slot(&to_school())], frames].concat()
 }

@@ -132,11 +132,8 @@ class Run:
         self.kept = list(parts) + [0] * (30 - len(parts))
 
     def shown(self):
-        if self.phase == "idle":
-            return "idle"
-        if self.phase == "packet":
-            return "packet %d" % self.count
-        return "gathering %d %s" % (self.count, hexed(self.kept))
+        known = " " + hexed(self.kept) if self.phase == "gathering" or any(self.kept) else ""
+        return self.phase + ("" if self.phase == "idle" else " %d" % self.count) + known
 
     # one slot
 

@@ -35,6 +35,24 @@ pub fn bytes(s: &[u8]) {
     }
 }
 
+fn blank(s: &[u8]) -> bool {
+    let mut at = 0;
+    while at < s.len() {
+        if s[at] != 0 {
+            return false;
+        }
+        at += 1;
+    }
+    true
+}
+
+// Bytes that are to be zeros show only where they are not.
+fn unless_blank(s: &[u8]) {
+    if !blank(s) {
+        bytes(s);
+    }
+}
+
 // The packet that memory begins with.
 fn packet(memory: &[u8], total: usize) {
     counted(b"packet of ", total);
@@ -67,6 +85,20 @@ fn late(brings: Late, header: [u8; 30]) {
     }
 }
 
+// An answer that carries no header and no stream fields.
+fn plain(said: Answer, memory: &[u8]) {
+    match said {
+        Answer::Stored(n) => counted(b"stored ", n),
+        Answer::Packet(total) => packet(memory, total),
+        Answer::Ended => text(b"end"),
+        Answer::Refused(why) => {
+            text(b"refused ");
+            io::print_decimal(STDOUT_FILENO, wide(refusal::number(why)));
+        }
+        _ => {}
+    }
+}
+
 pub fn answer(said: Answer, header: [u8; 30], stream: StreamFrame, memory: &[u8]) {
     text(b": ");
     match said {
@@ -74,17 +106,18 @@ pub fn answer(said: Answer, header: [u8; 30], stream: StreamFrame, memory: &[u8]
             text(b"header");
             bytes(&header);
         }
-        Answer::Stored(n) => counted(b"stored ", n),
-        Answer::Packet(total) => packet(memory, total),
         Answer::Stream(brings) => {
             text(b"fields ");
             fields(stream);
             late(brings, header);
         }
-        Answer::Ended => text(b"end"),
-        Answer::Refused(why) => {
-            text(b"refused ");
-            io::print_decimal(STDOUT_FILENO, wide(refusal::number(why)));
+        _ => {
+            plain(said, memory);
+            unless_blank(&header);
+            let part = stream.lich_part;
+            unless_blank(&part);
+            let content = stream.stream_data;
+            unless_blank(&content);
         }
     }
 }
@@ -94,8 +127,14 @@ pub fn state(next: Receiver) {
     let parts = next.parts;
     text(b" | ");
     match phase {
-        Phase::Idle => text(b"idle"),
-        Phase::Packet(n) => counted(b"packet ", n),
+        Phase::Idle => {
+            text(b"idle");
+            unless_blank(&parts);
+        }
+        Phase::Packet(n) => {
+            counted(b"packet ", n);
+            unless_blank(&parts);
+        }
         Phase::Gathering(k) => {
             counted(b"gathering ", k);
             bytes(&parts);

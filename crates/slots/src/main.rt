@@ -1,11 +1,12 @@
 // slots: says what each slot of a recording holds.
 //
-// The recording is slots of 48 bytes, one after another, in the file that the argument names, or on standard input where there is none.
-// One receiver takes them in order. Each line on standard output is
+// The recording is slots of 48 bytes, one after another, in the file that the argument names, or on standard input where there is
+// none. One receiver takes them in order. Each line on standard output is
 //
 //     NNNN kind: field value, field value
 //
-// with the slot's number, from 0001 on. Bytes and reserved addresses are in hexadecimal, all other numbers in decimal. The kinds and their fields:
+// with the slot's number, from 0001 on. Bytes and reserved addresses are in hexadecimal, all other numbers in decimal. The kinds and
+// their fields:
 //
 //     header: destination, source, mode, datatype, encryption, channel, meta
 //     stored: piece
@@ -18,9 +19,9 @@
 //     refused N: what the number means
 //     rest: bytes, of a slot that the recording does not have whole
 //
-// An address is "callsign" and its characters, "reserved" and its number, "broadcast" or "invalid". A packet has two lines, packet and text; a stream
-// slot has a second line, late or spoiled, where a header is due. The last line has no number: "summary: " and the counts of slots, headers, packets,
-// late headers (late) and of each refusal that came (refused-N).
+// An address is "callsign" and its characters, "reserved" and its number, "broadcast" or "invalid". A packet has two lines, packet and
+// text; a stream slot has a second line, late or spoiled, where it is the sixth of six parts. The last line has no slot's number: it is
+// "summary: " with the counts of slots, headers, packets and late headers (late), and of each refusal that came (refused-N).
 mod answers;
 mod line;
 mod part;

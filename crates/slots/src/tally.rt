@@ -13,6 +13,7 @@ pub struct Tally {
     refused: [u64; 16],
 }
 
+// No recording is so long that a count comes round to 0.
 fn more(n: u64) -> u64 {
     std::num::wrapping_add_u64(n, 1)
 }
@@ -24,6 +25,7 @@ fn one_more(counts: [u64; 16], why: Refusal) -> [u64; 16] {
     c
 }
 
+// A refusal that did not come has no field.
 fn refused_field(line: Line, n: u64, count: u64) -> Line {
     if count == 0 {
         return line;
@@ -58,6 +60,7 @@ impl Tally {
         self.slots
     }
 
+    // One slot more.
     pub fn with_slot(mut self) -> Tally {
         self.slots = more(self.slots);
         self
@@ -74,6 +77,7 @@ impl Tally {
         }
     }
 
+    // The answer to a slot, counted.
     pub fn with_answer(mut self, answer: Answer) -> Tally {
         match answer {
             Answer::Header => {

@@ -1,6 +1,5 @@
 -- `slots::part::before_spaces` is safe and ends. Assumes nothing.
-use mathlib.Core.Path.{_≡_}
-use Prim.Native.Nat.{_-_, _≤_}
+use Prim.Native.Nat.{_≤_}
 use lib.ListN.{length}
 use borrow.Author.Needs.{needs}
 use Rattle.slots.proofs.part.before_spaces.Statement.{statement}

@@ -1,6 +1,5 @@
--- `slots::recording::read_all` is safe and ends. Assumes nothing.
+-- `slots::recording::read_all` is safe and ends: the measure is the number of turns that are left. Assumes nothing.
 use mathlib.Core.Path.{_≡_}
-use Prim.Native.Nat.{_-_, _≤_}
 use lib.ListN.{length}
 use borrow.Author.Needs.{needs}
 use Rattle.slots.proofs.recording.read_all.Statement.{statement}

@@ -1,8 +1,8 @@
 -- Slots of bytes fed to a receiver, as what they say fed to the automaton: the state that the code holds is the automaton's, its memory too,
 -- and what a caller hears is what the automaton says. Assumes nothing.
-use mathlib.Core.Path.{_≡_, refl, sym, ap, ap₂, _∙_, subst}
+use mathlib.Core.Path.{_≡_, refl, ap, ap₂, _∙_}
 use mathlib.Core.Bool.{Bool, true, false, cond}
-use mathlib.Core.List.{List, [], _∷_, _++_}
+use mathlib.Core.List.{List, []}
 use Prim.Native.Nat.{ℕ, _-_, _*_, _<_}
 use native.Mathlib.Omega.{arith}
 use lib.Dec.{eqb}
@@ -27,8 +27,8 @@ use Rattle.automaton.proofs.Bounds.{Bounded, bounded, memory-long}
 use Rattle.receiver.specs.declared.Receiver.{Receiver}
 use Rattle.receiver.specs.declared.Received.{Received}
 use Rattle.receiver.specs.declared.Answer.the-variants as Answers
-use Rattle.receiver.specs.See.{headerBy, streamBy, counted, packetBy, seenBy, see}
-use Rattle.receiver.specs.Receiver.{stateOf, within, padded, phaseFor, receiverFor, answerFor, headerFor, streamFor, noHeader, noStream, unchanged, taken, receivedOf, memoryOf}
+use Rattle.receiver.specs.See.{headerBy, streamBy, packetBy, seenBy, see}
+use Rattle.receiver.specs.Receiver.{stateOf, within, phaseFor, receiverFor, answerFor, headerFor, streamFor, noHeader, noStream, unchanged, taken, receivedOf, memoryOf}
 use Rattle.receiver.specs.Runs.{Fed, start, _▹_, Held, fed, after, handedOut, hearing, Heard, heard, heardBy, seenOf}
 
 -- ---- every reading is sound

@@ -1,21 +1,17 @@
 -- Slots exactly as our writers give them, and what they say. Assumes nothing.
-use mathlib.Core.Path.{_≡_, refl, sym, ap, _∙_}
-use mathlib.Core.List.{List, [], _∷_, _++_}
+use mathlib.Core.Path.{_≡_, ap, _∙_}
+use mathlib.Core.List.{List, _++_}
 use Prim.Native.Nat.{ℕ, suc}
-use native.Mathlib.Omega.{arith}
 use lib.ListN.{length}
 use borrow.Author.Tests.{eq-eqb}
 use Rattle.laws.specs.Value.{valueOf}
 use Rattle.refusal.specs.Number.{saidOf}
-use Rattle.refusal.specs.declared.Verdict.the-variants.{Done}
 use Rattle.crc.specs.Crc.{crc}
-use Rattle.protocol.specs.declared.LsfFrame.{LsfFrame}
 use Rattle.protocol.specs.declared.StreamFrame.{StreamFrame}
 use Rattle.protocol.specs.declared.PacketFrame.{PacketFrame}
 use Rattle.encode.specs.Bodies.{lsfBodyOf}
 use Rattle.fec.specs.declared.Kind.the-variants as kind
 use Rattle.encode.specs.Symbols.{syncOf}
-use Rattle.decode.specs.declared.LsfRead.{LsfRead}
 use Rattle.decode.specs.declared.StreamRead.{StreamRead}
 use Rattle.decode.specs.declared.PacketRead.{PacketRead}
 use Rattle.decode.proofs.When.{lsf-when, stream-when, packet-when}

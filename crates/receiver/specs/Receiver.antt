@@ -1,6 +1,6 @@
 -- What the receiver answers to a slot, which state comes next, and what packet memory then holds. Assumes nothing.
 use mathlib.Core.Bool.{Bool, true, false, cond, _&&_}
-use mathlib.Core.List.{List, [], _++_}
+use mathlib.Core.List.{List, _++_}
 use Prim.Native.Nat.{ℕ, _-_, _*_}
 use lib.Dec.{eqb, leb}
 use lib.ListN.{length, take, replicate}

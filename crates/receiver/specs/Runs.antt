@@ -9,7 +9,6 @@ use Rattle.automaton.specs.Step.{idle}
 use Rattle.automaton.specs.Runs as seen
 use Rattle.automaton.specs.Runs.{Slots, _▸_}
 use Rattle.receiver.specs.declared.Receiver.{Receiver}
-use Rattle.receiver.specs.declared.Late.{Late}
 use Rattle.receiver.specs.declared.Answer.{Answer}
 use Rattle.receiver.specs.declared.Answer.the-variants.{Header, Stored, Packet, Stream, Ended, Refused}
 use Rattle.receiver.specs.declared.Received.{Received}

@@ -1,8 +1,8 @@
 // The slot receiver: what a slot of 48 bytes says is read by `decode`, and then taken as the automaton has it.
 ghost use mathlib.Core.Path.{_≡_};
 ghost use mathlib.Core.List.{[], _++_};
-ghost use Prim.Native.Nat.{_+_, _-_, _*_, _≤_, _<_};
-ghost use lib.ListN.{length, take, drop, replicate};
+ghost use Prim.Native.Nat.{_+_, _*_, _≤_, _<_};
+ghost use lib.ListN.{length, take, replicate};
 ghost use mathlib.Core.Bool.{true};
 ghost use Rattle.automaton.specs.Seen.{head, piece, final};
 ghost use Rattle.automaton.specs.Step.{put, idle, inPacket, header, refused, kept};

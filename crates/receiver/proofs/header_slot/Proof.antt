@@ -1,9 +1,7 @@
 -- `receiver::header_slot` meets its contract. Assumes nothing.
-use mathlib.Core.Path.{_≡_, sym, ap, _∙_, subst}
+use mathlib.Core.Path.{sym, ap, _∙_}
 use mathlib.Core.List.{[]}
 use Rattle.decode.specs.declared.LsfRead.{LsfRead}
-use Rattle.decode.specs.Bodies.{lsfReadOf}
-use Rattle.automaton.specs.Seen.{Seen}
 use Rattle.automaton.specs.Step.{idle}
 use Rattle.receiver.specs.See.{headerSeen}
 use Rattle.receiver.specs.Receiver.{taken}

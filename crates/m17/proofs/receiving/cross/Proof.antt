@@ -1,9 +1,4 @@
 -- `m17::cross` meets its contract. Assumes nothing.
-use mathlib.Core.Path.{ap, ap₂, _∙_}
-use Prim.Native.Nat.{ℕ}
-use Rattle.m17.specs.declared.M17Receiver.{M17Receiver}
-use Rattle.m17.specs.declared.M17Received.{M17Received}
-use Rattle.m17.specs.Receiving.{nextFor}
 use Rattle.m17.proofs.Crossed.{alike}
 use borrow.Author.Needs.{needs}
 use Rattle.m17.proofs.receiving.cross.Statement.{statement}

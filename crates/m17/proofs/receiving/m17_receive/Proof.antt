@@ -1,9 +1,9 @@
 -- `m17::m17_receive` meets its contract. Assumes nothing.
-use mathlib.Core.Path.{_≡_, ap, _∙_}
+use mathlib.Core.Path.{ap, _∙_}
 use Rattle.receiver.specs.declared.Phase.{Phase}
 use Rattle.receiver.specs.declared.Receiver.{Receiver}
 use Rattle.receiver.specs.Receiver.{receivedOf, memoryOf}
-use Rattle.m17.specs.Receiving.{heldBy, crossed}
+use Rattle.m17.specs.Receiving.{crossed}
 use borrow.Author.Needs.{needs}
 use Rattle.m17.proofs.receiving.m17_receive.Statement.{statement}
 use Rattle.m17.proofs.receiving.m17_receive.Tie as tie

@@ -1,5 +1,4 @@
 -- `m17::next_for` meets its contract. Assumes nothing.
-use mathlib.Core.Path.{_∙_}
 use borrow.Author.Tests.{eq-eqb, ne-eqb}
 use borrow.Author.Needs.{needs}
 use Rattle.m17.proofs.receiving.next_for.Statement.{statement}

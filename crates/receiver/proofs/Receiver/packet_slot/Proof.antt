@@ -2,12 +2,10 @@
 use mathlib.Core.Path.{refl, sym, ap, _∙_}
 use lib.ListN.{length}
 use Rattle.decode.proofs.Ranges.{packet-range}
-use Prim.Native.Nat.{_≤_}
 use Rattle.decode.specs.declared.PacketRead.{PacketRead}
 use Rattle.receiver.specs.declared.Phase.{Phase}
 use Rattle.receiver.specs.See.{packetSeen}
 use Rattle.receiver.specs.Receiver.{meaning, stateOf}
-use Rattle.automaton.specs.Step.{State}
 use Rattle.receiver.proofs.Taken.{packet-refused, packet-counted, not-open, within-packet, takes-as, unread-takes}
 use borrow.Author.Needs.{needs}
 use Rattle.receiver.proofs.Receiver.packet_slot.Statement.{statement}

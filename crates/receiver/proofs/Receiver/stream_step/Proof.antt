@@ -1,5 +1,5 @@
 -- `receiver::Receiver::stream_step` meets its contract. Assumes nothing.
-use mathlib.Core.Path.{sym, _∙_}
+use mathlib.Core.Path.{_∙_}
 use native.Mathlib.Omega.{arith}
 use Rattle.receiver.proofs.Gather.{counted≤5, part-first, part-other, part-more, part-spoiled, part-last}
 use borrow.Author.Needs.{needs}

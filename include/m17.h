@@ -5,7 +5,7 @@
  * lent for the answer or not, is refused with 1, before anything else is looked at. Numbers of document 01:
  * 1 wrong length, 2 out of range, 3 nearest word over six, 4 Golay word refused, 5 header CRC not zero, 6 bad address,
  * 7 unknown sync, 8 packet slot out of turn, 9 final length 0 or over 25, 10 total under 3, 11 packet CRC not zero,
- * 12 bad state. */
+ * 12 bad state. The receiver alone answers in a struct, with that number in its field `said`. */
 #ifndef M17_H
 #define M17_H
 #include <stddef.h>
@@ -117,7 +117,8 @@ typedef struct {
  * in with the next slot; 1 and 12 leave it as it was given, any other refusal makes it idle. What an answer does not carry is 0.
  * answer: 0 refused; 1 a header, its bytes in `header`; 2 a piece stored, its number in `number`; 3 a packet handed out,
  * `number` bytes from the start of the packet memory, its two CRC bytes included; 4 stream fields; 5 stream fields with a late
- * header, its bytes in `header`; 6 stream fields after six parts whose CRC is not zero; 7 the end of a transmission. */
+ * header, its bytes in `header`; 6 stream fields after six parts whose CRC is not zero; 7 the end of a transmission. Stream fields
+ * are `lich_idx`, `lich_part`, `frame_number`, `end_of_stream` (0 or 1) and `stream_data`. */
 typedef struct {
     size_t number;
     m17_receiver next;

@@ -30,7 +30,7 @@ pub data Seen : Type 0 where
   -- refused with 7, 3, 4 or 5
   unread : Refusal → Seen
 
--- what every reading keeps to
+-- what every reading keeps to, as far as the automaton leans on it: numbers and lengths of packet frames have five bits
 abbrev pub Sound : Seen → Type 0
 Sound (head h) = length h ≡ 30
 Sound (piece k b) = (k ≤ 31) × (length b ≡ 25)

@@ -1,5 +1,6 @@
--- Demand 3: slots fed in order to one receiver from its start, state and packet memory untouched between calls. Packet memory is 825 bytes,
--- whatever they hold; slots are bytes, and `seenOf past` is what those of 48 bytes said, read by the rules of demand 2. Assumes nothing.
+-- Demand 3: slots fed in order to one receiver from its start, state and packet memory untouched between calls. Packet memory is 825 numbers,
+-- whatever they are; slots are lists of any numbers and lengths, bytes included, and `seenOf past` is what those of length 48 said, read by the
+-- rules of demand 2. Assumes nothing.
 use mathlib.Core.Path.{_≡_, refl, sym, ap, ap₂, _∙_}
 use mathlib.Core.Logic.{_↔_}
 use mathlib.Core.Bool.{true, false}
@@ -37,7 +38,7 @@ pub record Demand3 : Type 0 where
   pub fresh : (m m′ : List ℕ) (past : Fed) (x h : List ℕ) (future : List (List ℕ)) (y : List ℕ) → length m ≡ 825 → length m′ ≡ 825
       → HeaderSlot x h → heard m (past ▹ x ▹▹ future) y ≡ heard m′ (start ▹ x ▹▹ future) y
   -- A packet is handed out exactly when the slots just gone are such a packet header, frames 0 upward with none missing, and a final frame of
-  -- 1 to 25 bytes, three bytes or more in all, CRC zero; it is their bytes joined.
+  -- 1 to 25 bytes, all reading by rule 2 (as `seenOf` and `see` have it), three bytes or more in all, CRC zero; it is their bytes joined.
   pub handed-out : (m : List ℕ) (past : Fed) (x : List ℕ) → length m ≡ 825 → length x ≡ 48 → (total : ℕ) (bytes : List ℕ)
       → ((heard m past x .answer ≡ Answers.Packet total) × (heard m past x .bytes ≡ bytes)) ↔ (Packet (seenOf past) (see x) bytes × (total ≡ length bytes))
   -- Memory is then the packet's bytes, and after them what it held at the packet's header.
@@ -62,7 +63,7 @@ pub record Demand3 : Type 0 where
       → 3 ≤ length p → length p ≤ 825 → Bytes p → crc p ≡ 0
       → heard m (past ▹ headerSlot h ▹▹ frameSlots p 0 (fulls p)) (packetSlot (lastFrame p))
       ≡ record { answer = Answers.Packet (length p); header = noHeader; stream = noStream; bytes = p }
-  -- No answer depends on anything but the state's meaning and the slot: parts not yet gathered do not matter.
+  -- No answer depends on anything but the state's meaning, the slot and packet memory: parts not yet gathered do not matter.
   pub same-meaning : (r r′ : Receiver) (x m : List ℕ) → fits x m ≡ true → within (r .phase) ≡ true → within (r′ .phase) ≡ true → stateOf r ≡ stateOf r′
       → (receivedOf r x m ≡ receivedOf r′ x m) × (memoryOf r x m ≡ memoryOf r′ x m)
 

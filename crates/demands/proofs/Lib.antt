@@ -5,3 +5,4 @@ pub mod Clean
 pub mod Sees
 pub mod CleanRuns
 pub mod Demand3
+pub mod EachSlot

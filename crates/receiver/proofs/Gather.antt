@@ -22,7 +22,7 @@ use Rattle.receiver.specs.declared.Late.the-variants.{Nothing, Header, S
 use Rattle.receiver.specs.declared.Answer.the-variants.{Stream}
 use Rattle.receiver.specs.declared.Received.{Received}
 use Rattle.receiver.specs.See.{streamFields}
-use Rattle.receiver.specs.Receiver.{meaning, stateOf, within, counted, padded, noHeader, receivedFrom, taken}
+use Rattle.receiver.specs.Receiver.{meaning, stateOf, within, gathered, padded, noHeader, receivedFrom, taken}
 
 -- ---- parts in an array of 30 zeros
 
@@ -55,17 +55,17 @@ padded-full q e =
 
 -- ---- the state's count and parts
 
-counted-is : (ph : Phase) (parts : List ℕ) → step.count (meaning ph parts) ≡ counted ph
-counted-is Idle parts = refl
-counted-is (Packet n) parts = refl
-counted-is (Gathering k) parts = refl
+gathered-is : (ph : Phase) (parts : List ℕ) → step.count (meaning ph parts) ≡ gathered ph
+gathered-is Idle parts = refl
+gathered-is (Packet n) parts = refl
+gathered-is (Gathering k) parts = refl
 
-pub counted≤5 : (ph : Phase) → within ph ≡ true → counted ph ≤ 5
-counted≤5 Idle w = omega arith
-counted≤5 (Packet n) w = omega arith
-counted≤5 (Gathering k) w = leb-true k 5 w
+pub gathered≤5 : (ph : Phase) → within ph ≡ true → gathered ph ≤ 5
+gathered≤5 Idle w = omega arith
+gathered≤5 (Packet n) w = omega arith
+gathered≤5 (Gathering k) w = leb-true k 5 w
 
-parts-are : (ph : Phase) (parts : List ℕ) (c : ℕ) → c ≡ counted ph → (c ≡ 0 → ⊥) → step.parts (meaning ph parts) ≡ take (5 * c) parts
+parts-are : (ph : Phase) (parts : List ℕ) (c : ℕ) → c ≡ gathered ph → (c ≡ 0 → ⊥) → step.parts (meaning ph parts) ≡ take (5 * c) parts
 parts-are Idle parts c e z = absurd (z e)
 parts-are (Packet n) parts c e z = absurd (z e)
 parts-are (Gathering k) parts c e z = rw e
@@ -96,24 +96,24 @@ module _ (self : Receiver) (f : StreamFrame) where
       let n : eqb c 5 ≡ false = ne-eqb c 5 (omega arith) in
       ap (streamed Nothing noHeader (Gathering 1)) q ∙ from-both (gathering 1 p) step.nothing (rw (eq-eqb c 0 e)) (rw n)
 
-  module _ (k : ℕ) (is : k ≡ counted (self .phase)) (z : c ≡ 0 → ⊥) where
+  module _ (k : ℕ) (is : k ≡ gathered (self .phase)) (z : c ≡ 0 → ⊥) where
     pub part-other : (c ≡ k → ⊥) → streamed Nothing noHeader Idle noHeader ≡ taken (stateOf self) [] (streamFields f)
     part-other h =
-        let y : eqb c (step.count (stateOf self)) ≡ false = rw (counted-is, ← is) (ne-eqb c k h) in
+        let y : eqb c (step.count (stateOf self)) ≡ false = rw (gathered-is, ← is) (ne-eqb c k h) in
         from-both idle step.nothing (rw (ne-eqb c 0 z, y)) (go (eqb c 5) (eqb (step.count (stateOf self)) 5) refl refl)
       where
         go : (u v : Bool) → eqb c 5 ≡ u → eqb (step.count (stateOf self)) 5 ≡ v → cond (u && v) (whole (step.parts (stateOf self) ++ p)) step.nothing ≡ step.nothing
         go false v eu ev = refl
         go true false eu ev = refl
         go true true eu ev =
-            absurd (h (eqb-true c 5 eu ∙ sym (eqb-true (step.count (stateOf self)) 5 ev) ∙ counted-is (self .phase) (self .parts) ∙ sym is))
+            absurd (h (eqb-true c 5 eu ∙ sym (eqb-true (step.count (stateOf self)) 5 ev) ∙ gathered-is (self .phase) (self .parts) ∙ sym is))
 
     module _ (q : c ≡ k) (parts : List ℕ) (made : parts ≡ padded (take (5 * c) (self .parts) ++ p)) where
       is-parts : step.parts (stateOf self) ≡ take (5 * c) (self .parts)
       is-parts = parts-are (self .phase) (self .parts) c (q ∙ is) z
 
       is-count : step.count (stateOf self) ≡ c
-      is-count = counted-is (self .phase) (self .parts) ∙ sym (q ∙ is)
+      is-count = gathered-is (self .phase) (self .parts) ∙ sym (q ∙ is)
 
       pub part-more : (c ≡ 5 → ⊥) → streamed Nothing noHeader (Gathering (c + 1)) parts ≡ taken (stateOf self) [] (streamFields f)
       part-more h =

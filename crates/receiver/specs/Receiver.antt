@@ -50,10 +50,10 @@ abbrev pub receiverFor : State → Receiver
 receiverFor s = record { phase = phaseFor s; parts = padded (step.parts s) }
 
 -- how many parts are gathered
-abbrev pub counted : Phase → ℕ
-counted Idle = 0
-counted (Packet n) = 0
-counted (Gathering k) = k
+abbrev pub gathered : Phase → ℕ
+gathered Idle = 0
+gathered (Packet n) = 0
+gathered (Gathering k) = k
 
 -- ---- answers
 

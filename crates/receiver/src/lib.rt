@@ -8,7 +8,7 @@ ghost use Rattle.automaton.specs.Seen.{head, piece, final};
 ghost use Rattle.automaton.specs.Step.{put, idle, inPacket, header, refused, kept};
 ghost use Rattle.decode.specs.Bodies.{lsfReadOf, streamReadOf, packetReadOf};
 ghost use Rattle.receiver.specs.See.{headerSeen, streamFields, streamSeen, packetSeen};
-ghost use Rattle.receiver.specs.Receiver.{stateOf, within, counted, padded, noStream, receiverFor, receivedFrom, unchanged, taken, receivedOf, memoryOf};
+ghost use Rattle.receiver.specs.Receiver.{stateOf, within, gathered, padded, noStream, receiverFor, receivedFrom, unchanged, taken, receivedOf, memoryOf};
 use protocol::LsfFrame;
 use protocol::Mode;
 use protocol::PacketFrameCounter;
@@ -141,7 +141,7 @@ fn header_slot(body: &[u8]) -> Received
 
 // How many parts are gathered.
 fn count(phase: Phase) -> usize
-    ensures { λ r. ⌜ r ≡ counted phase ⌝ }
+    ensures { λ r. ⌜ r ≡ gathered phase ⌝ }
 {
     match phase {
         Phase::Idle => 0,

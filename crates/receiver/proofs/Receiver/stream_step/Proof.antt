@@ -1,7 +1,7 @@
 -- `receiver::Receiver::stream_step` meets its contract. Assumes nothing.
 use mathlib.Core.Path.{_∙_}
 use native.Mathlib.Omega.{arith}
-use Rattle.receiver.proofs.Gather.{counted≤5, part-first, part-other, part-more, part-spoiled, part-last}
+use Rattle.receiver.proofs.Gather.{gathered≤5, part-first, part-other, part-more, part-spoiled, part-last}
 use borrow.Author.Needs.{needs}
 use Rattle.receiver.proofs.Receiver.stream_step.Statement.{statement}
 use Rattle.receiver.proofs.Receiver.stream_step.Tie as tie
@@ -38,7 +38,7 @@ with-part-requires-2 : tie.Need-with-part-requires-2
 with-part-requires-2 c κs =
     let n = c .before in
     let t = n .before .before .before .before .before in
-    omega (arith, c .if2 .left, n .count .ensures, counted≤5 (t .args .self .phase) (t .pre))
+    omega (arith, c .if2 .left, n .count .ensures, gathered≤5 (t .args .self .phase) (t .pre))
 
 add-t18 : tie.Need-add-t18
 add-t18 c = search needs

@@ -1,0 +1,310 @@
+-- What a slot is answered with at any point of a run, and what it leaves: the lines of document 01's table and of its receiver section, one by
+-- one. Assumes nothing.
+use mathlib.Core.Path.{_≡_, refl, sym, ap, ap₂, _∙_, subst}
+use mathlib.Core.Logic.{_↔_}
+use mathlib.Core.Bool.{Bool, true, false, cond, _&&_}
+use mathlib.Core.List.{List, []}
+use Prim.Native.Nat.{ℕ, _+_, _*_, _%_, _≤_, _<_}
+use native.Mathlib.Omega.{arith}
+use native.Mathlib.Decide.{ℕ-discrete}
+use lib.Dec.{eqb}
+use lib.ListN.{length, getD, take, drop, length-drop}
+use lib.Seq.{getD-drop}
+use borrow.Author.Tests.{eq-eqb, ne-eqb, eqb-true}
+use Rattle.laws.specs.Value.{valueOf}
+use Rattle.refusal.specs.declared.Refusal.{Refusal}
+use Rattle.refusal.specs.declared.Refusal.the-variants.{WrongLength, BadHeader, UnknownSync, OutOfTurn, BadState}
+use Rattle.refusal.specs.declared.Verdict.{Verdict}
+use Rattle.refusal.specs.declared.Verdict.the-variants.{Done, Refused}
+use Rattle.crc.specs.Crc.{crc}
+use Rattle.protocol.specs.declared.StreamFrame.{StreamFrame}
+use Rattle.protocol.specs.declared.PacketFrameCounter.{PacketFrameCounter}
+use Rattle.protocol.specs.declared.PacketFrameCounter.the-variants.{Frame, FinalFrame}
+use Rattle.protocol.specs.Numbers.{modeOf}
+use Rattle.protocol.specs.Fields.{typeBytes, modeBits, field}
+use Rattle.protocol.proofs.Whole.{Thirty, field-bytes}
+use Rattle.protocol.proofs.TypeBits.{type-read}
+use Rattle.decode.proofs.Words.{value-two}
+use Rattle.decode.specs.declared.LsfRead.{LsfRead}
+use Rattle.decode.specs.declared.StreamRead.{StreamRead}
+use Rattle.decode.specs.declared.PacketRead.{PacketRead}
+use Rattle.decode.specs.Bodies.{lsfReadOf, streamReadOf, packetReadOf}
+use Rattle.automaton.specs.Seen.{Seen, head, piece, end, unread, streams, isStream}
+use Rattle.automaton.specs.Step as step
+use Rattle.automaton.specs.Runs.{Slots, state, memory, handed, said}
+use Rattle.automaton.proofs.Cases.{never, by-test}
+use Rattle.automaton.proofs.ByAnswer.{ByAnswer, by-answer}
+use Rattle.automaton.proofs.Opened.{Pieces, Opened, opened}
+use Rattle.automaton.proofs.Held.{held}
+use Rattle.receiver.specs.declared.Receiver.{Receiver}
+use Rattle.receiver.specs.declared.Late.{Late}
+use Rattle.receiver.specs.declared.Answer.{Answer}
+use Rattle.receiver.specs.declared.Answer.the-variants as Answers
+use Rattle.receiver.specs.See.{headerBy, headerSeen, streamFields, streamBy, streamSeen, packetBy, packetSeen, see}
+use Rattle.receiver.specs.Receiver.{receiverFor, within, noHeader, noStream, fits, lateFor, answerFor, headerFor, streamFor, unchanged, receivedOf, memoryOf}
+use Rattle.receiver.specs.Runs.{Fed, _▹_, Held, after, Heard, heard, seenOf}
+use Rattle.demands.proofs.AsSeen.{all-sound, holding, after-is, heardFor, heard-is}
+use Rattle.demands.proofs.Sees.{HeaderSlot, header-says}
+
+pub record EachSlot : Type 0 where
+  -- The receiver's state means the automaton's, and packet memory is the automaton's, after any slots.
+  pub as-seen : (m : List ℕ) (past : Fed) → length m ≡ 825 → after m past ≡ holding (state (seenOf past)) (memory m (seenOf past))
+  -- A header slot that reads with a good CRC is answered with its bytes, and nothing else is answered so.
+  pub header-answered : (m : List ℕ) (past : Fed) (x h : List ℕ) → length m ≡ 825 → HeaderSlot x h
+      → heard m past x ≡ record { answer = Answers.Header; header = h; stream = noStream; bytes = [] }
+  pub header-only : (m : List ℕ) (past : Fed) (x : List ℕ) → length m ≡ 825 → length x ≡ 48 → heard m past x .answer ≡ Answers.Header
+      → HeaderSlot x (heard m past x .header)
+  -- Type bit 0, which says what a header opens, is the lowest bit of byte 13.
+  pub type-bit : (h : List ℕ) → Thirty h → isStream h ≡ eqb (getD h 13 0 % 2) 1
+  -- Frame k is answered as stored exactly when the slots just gone are a packet header and frames 0 to k - 1.
+  pub stored-exactly : (m : List ℕ) (past : Fed) (x : List ℕ) (k : ℕ) → length m ≡ 825 → length x ≡ 48
+      → (heard m past x .answer ≡ Answers.Stored k) ↔ ((b : List ℕ) × (see x ≡ piece k b) × Pieces k (seenOf past))
+  -- A stream slot's fields are always answered.
+  pub stream-answered : (m : List ℕ) (past : Fed) (x : List ℕ) (f : StreamFrame) → length m ≡ 825 → length x ≡ 48 → valueOf (take 2 x) ≡ 0xFF5D
+      → streamReadOf (drop 2 x) ≡ record { answer = Done; frame = f }
+      → (l : Late) × (heard m past x .answer ≡ Answers.Stream l) × (heard m past x .stream ≡ f)
+  -- The end is answered as end, its body unread, and leaves idle and memory alone.
+  pub end-answered : (m : List ℕ) (past : Fed) (x : List ℕ) → length m ≡ 825 → length x ≡ 48 → valueOf (take 2 x) ≡ 0x555D
+      → (heard m past x ≡ record { answer = Answers.Ended; header = noHeader; stream = noStream; bytes = [] })
+      × (after m (past ▹ x) ≡ holding step.idle (after m past .memory))
+  -- A slot that does not read is refused with its number: 7, then 3, then 4 or 5.
+  pub refused-7 : (m : List ℕ) (past : Fed) (x : List ℕ) → length m ≡ 825 → length x ≡ 48 → (valueOf (take 2 x) ≡ 0x55F7 → ⊥)
+      → (valueOf (take 2 x) ≡ 0xFF5D → ⊥) → (valueOf (take 2 x) ≡ 0x75FF → ⊥) → (valueOf (take 2 x) ≡ 0x555D → ⊥)
+      → heard m past x .answer ≡ Answers.Refused UnknownSync
+  pub header-refused : (m : List ℕ) (past : Fed) (x : List ℕ) (why : Refusal) → length m ≡ 825 → length x ≡ 48 → valueOf (take 2 x) ≡ 0x55F7
+      → lsfReadOf (drop 2 x) .answer ≡ Refused why → heard m past x .answer ≡ Answers.Refused why
+  pub refused-5 : (m : List ℕ) (past : Fed) (x : List ℕ) → length m ≡ 825 → length x ≡ 48 → valueOf (take 2 x) ≡ 0x55F7
+      → lsfReadOf (drop 2 x) .answer ≡ Done → (crc (lsfReadOf (drop 2 x) .frame .bytes) ≡ 0 → ⊥) → heard m past x .answer ≡ Answers.Refused BadHeader
+  pub stream-refused : (m : List ℕ) (past : Fed) (x : List ℕ) (why : Refusal) → length m ≡ 825 → length x ≡ 48 → valueOf (take 2 x) ≡ 0xFF5D
+      → streamReadOf (drop 2 x) .answer ≡ Refused why → heard m past x .answer ≡ Answers.Refused why
+  pub packet-refused : (m : List ℕ) (past : Fed) (x : List ℕ) (why : Refusal) → length m ≡ 825 → length x ≡ 48 → valueOf (take 2 x) ≡ 0x75FF
+      → packetReadOf (drop 2 x) .answer ≡ Refused why → heard m past x .answer ≡ Answers.Refused why
+  -- Whatever the refusal of a slot, it carries no data, memory is untouched and the receiver idle.
+  pub refusal-keeps : (m : List ℕ) (past : Fed) (x : List ℕ) (why : Refusal) → length m ≡ 825 → length x ≡ 48 → heard m past x .answer ≡ Answers.Refused why
+      → (heard m past x ≡ record { answer = Answers.Refused why; header = noHeader; stream = noStream; bytes = [] })
+      × (after m (past ▹ x) ≡ holding step.idle (after m past .memory))
+  -- 1 and 12 change no state and no memory, whatever the receiver.
+  pub refused-1 : (r : Receiver) (x m : List ℕ) → fits x m ≡ false → (receivedOf r x m ≡ unchanged WrongLength r) × (memoryOf r x m ≡ m)
+  pub refused-12 : (r : Receiver) (x m : List ℕ) → fits x m ≡ true → within (r .phase) ≡ false
+      → (receivedOf r x m ≡ unchanged BadState r) × (memoryOf r x m ≡ m)
+
+-- ---- what a slot says, by its sync word
+
+module _ (x : List ℕ) where
+  stream-says : valueOf (take 2 x) ≡ 0xFF5D → see x ≡ streamSeen (streamReadOf (drop 2 x))
+  unfolding see
+  stream-says e = rw e
+
+  header-sync : valueOf (take 2 x) ≡ 0x55F7 → see x ≡ headerSeen (lsfReadOf (drop 2 x))
+  unfolding see
+  header-sync e = rw e
+
+  packet-says : valueOf (take 2 x) ≡ 0x75FF → see x ≡ packetSeen (packetReadOf (drop 2 x))
+  unfolding see
+  packet-says e = rw e
+
+  end-says : valueOf (take 2 x) ≡ 0x555D → see x ≡ end
+  unfolding see
+  end-says e = rw e
+
+  unknown-says : (valueOf (take 2 x) ≡ 0x55F7 → ⊥) → (valueOf (take 2 x) ≡ 0xFF5D → ⊥) → (valueOf (take 2 x) ≡ 0x75FF → ⊥) → (valueOf (take 2 x) ≡ 0x555D → ⊥)
+      → see x ≡ unread UnknownSync
+  unfolding see
+  unknown-says a b c d =
+      rw (ne-eqb (valueOf (take 2 x)) 0x55F7 a, ne-eqb (valueOf (take 2 x)) 0xFF5D b, ne-eqb (valueOf (take 2 x)) 0x75FF c, ne-eqb (valueOf (take 2 x)) 0x555D d)
+
+-- ---- only a header slot says `head`
+
+stream-no-head : (v : Verdict) (f : StreamFrame) (h : List ℕ) → streamBy v f ≡ head h → ⊥
+stream-no-head Done f h e = never (cc)
+stream-no-head (Refused why) f h e = never (cc)
+
+packet-no-head : (v : Verdict) (c : PacketFrameCounter) (b h : List ℕ) → packetBy v c b ≡ head h → ⊥
+packet-no-head Done (Frame k) b h e = never (cc)
+packet-no-head Done (FinalFrame len) b h e = never (cc)
+packet-no-head (Refused why) c b h e = never (cc)
+
+header-head : (r : LsfRead) (v : Verdict) (h : List ℕ) → r .answer ≡ v → headerBy v (r .frame .bytes) ≡ head h
+    → (r ≡ record { answer = Done; frame = record { bytes = h } }) × (crc h ≡ 0)
+header-head r Done h a =
+    by-test (λ (s : Seen). s ≡ head h → (r ≡ record { answer = Done; frame = record { bytes = h } }) × (crc h ≡ 0)) (eqb (crc (r .frame .bytes)) 0)
+    (λ z e. let b : r .frame .bytes ≡ h = cc in (ap₂ {C = LsfRead} (λ (v : Verdict) (l : List ℕ). record { answer = v; frame = record { bytes = l } }) a b, sym (ap crc b) ∙ eqb-true _ 0 z))
+    (λ z e. never (cc))
+header-head r (Refused why) h a = λ e. never (cc)
+
+head-only : (x h : List ℕ) → length x ≡ 48 → see x ≡ head h → HeaderSlot x h
+unfolding see
+head-only x h long =
+    by-test (λ (s : Seen). s ≡ head h → HeaderSlot x h) (eqb sync 0x55F7)
+    (λ e q. let k = header-head (lsfReadOf body) (lsfReadOf body .answer) h refl q in record { long = long; sync = eqb-true sync 0x55F7 e; reads = k .0; good = k .1 })
+    (λ e. by-test (λ (s : Seen). s ≡ head h → HeaderSlot x h) (eqb sync 0xFF5D)
+    (λ f q. absurd (stream-no-head (streamReadOf body .answer) (streamReadOf body .frame) h q))
+    (λ f. by-test (λ (s : Seen). s ≡ head h → HeaderSlot x h) (eqb sync 0x75FF)
+    (λ g q. absurd (packet-no-head (packetReadOf body .answer) (packetReadOf body .frame .counter) (packetReadOf body .frame .payload) h q))
+    (λ g. by-test (λ (s : Seen). s ≡ head h → HeaderSlot x h) (eqb sync 0x555D) (λ i q. never (cc)) (λ i q. never (cc)))))
+  where
+    sync : ℕ
+    sync = valueOf (take 2 x)
+
+    body : List ℕ
+    body = drop 2 x
+
+-- ---- one slot of a run
+
+header-only-answer : (a : step.Answer) → answerFor a ≡ Answers.Header → (h : List ℕ) × (a ≡ step.header h)
+header-only-answer (step.header h) e = (h, refl)
+header-only-answer (step.stored k) e = never (cc)
+header-only-answer (step.packet t) e = never (cc)
+header-only-answer (step.fields c p f l) e = never (cc)
+header-only-answer step.ended e = never (cc)
+header-only-answer (step.refused why) e = never (cc)
+
+refused-only : (a : step.Answer) (why : Refusal) → answerFor a ≡ Answers.Refused why → a ≡ step.refused why
+refused-only (step.header h) why e = never (cc)
+refused-only (step.stored k) why e = never (cc)
+refused-only (step.packet t) why e = never (cc)
+refused-only (step.fields c p f l) why e = never (cc)
+refused-only step.ended why e = never (cc)
+refused-only (step.refused w) why e = cc
+
+stored-only : (a : step.Answer) (k : ℕ) → answerFor a ≡ Answers.Stored k → a ≡ step.stored k
+stored-only (step.header h) k e = never (cc)
+stored-only (step.stored j) k e = cc
+stored-only (step.packet t) k e = never (cc)
+stored-only (step.fields c p f l) k e = never (cc)
+stored-only step.ended k e = never (cc)
+stored-only (step.refused why) k e = never (cc)
+
+turn : (b : Bool) (k : ℕ) → cond b (step.stored k) (step.refused OutOfTurn) ≡ step.stored k → b ≡ true
+turn true k e = refl
+turn false k e = never (cc)
+
+expected : (st : step.State) (k : ℕ) (past : Slots) → step.expects st k ≡ true → Opened st past → Pieces k past
+expected step.idle k past e o = never (cc)
+expected (step.inPacket n) k past e o = subst (λ (j : ℕ). Pieces j past) (sym (eqb-true k n e)) o
+expected (step.gathering j q) k past e o = never (cc)
+
+-- ---- type bit 0
+
+by-bit : (n : ℕ) → n < 2 → streams (modeOf n) ≡ eqb n 1
+by-bit n h = elim (ℕ-discrete n 0) [
+  | yes e ↦ rw e
+  | no z ↦ let e : n ≡ 1 = omega arith in rw e
+]
+
+type-bit : (h : List ℕ) → Thirty h → isStream h ≡ eqb (getD h 13 0 % 2) 1
+type-bit h o =
+    let t = field typeBytes h in
+    let left : 2 ≤ length (drop 12 h) = omega (arith, length-drop 12 h, o .long) in
+    let v : t ≡ getD h 12 0 * 256 + getD h 13 0 =
+    field-bytes h o 12 2 (omega arith) ∙ value-two (drop 12 h) left ∙ ap₂ (λ (a b : ℕ). a * 256 + b) (getD-drop 12 h 0 0) (getD-drop 12 h 1 0) in
+    let r : field modeBits h ≡ getD h 13 0 % 2 = type-read 0 1 h (omega arith) t refl ∙ omega arith in
+    ap (λ (n : ℕ). streams (modeOf n)) r ∙ by-bit (getD h 13 0 % 2) (omega arith)
+
+module _ (m : List ℕ) (past : Fed) (x : List ℕ) (room : length m ≡ 825) (long : length x ≡ 48) where
+  at-seen : (s : Seen) → see x ≡ s → heard m past x ≡ heardFor (said m (seenOf past) s)
+  at-seen s e = heard-is m room past x long ∙ ap (λ (t : Seen). heardFor (said m (seenOf past) t)) e
+
+  slot-after : after m (past ▹ x) ≡ holding (step.next (state (seenOf past)) (see x)) (step.kept (state (seenOf past)) (memory m (seenOf past)) (see x))
+  unfolding seenOf state memory
+  slot-after = after-is m room (past ▹ x) ∙ rw (eq-eqb (length x) 48 long)
+
+  unread-heard : (why : Refusal) → see x ≡ unread why → heard m past x .answer ≡ Answers.Refused why
+  unfolding step.answer
+  unread-heard why e = ap (λ (k : Heard). k .answer) (at-seen (unread why) e)
+
+  refusal-keeps : (why : Refusal) → heard m past x .answer ≡ Answers.Refused why
+      → (heard m past x ≡ record { answer = Answers.Refused why; header = noHeader; stream = noStream; bytes = [] })
+      × (after m (past ▹ x) ≡ holding step.idle (after m past .memory))
+  refusal-keeps why e =
+      let st = state (seenOf past) in
+      let mem = memory m (seenOf past) in
+      let is = heard-is m room past x long in
+      let a = refused-only (step.answer st mem (see x)) why (sym (ap (λ (k : Heard). k .answer) is) ∙ e) in
+      let k = subst (ByAnswer st mem (see x)) a (by-answer st mem (see x)) in (
+        is ∙ ap (λ (b : step.Answer). heardFor (record { answer = b; bytes = handed b (step.kept st mem (see x)) })) a,
+        slot-after ∙ ap₂ holding (k .0) (k .1 ∙ sym (ap (λ (h : Held). h .memory) (after-is m room past))),
+      )
+
+  end-answered : valueOf (take 2 x) ≡ 0x555D
+      → (heard m past x ≡ record { answer = Answers.Ended; header = noHeader; stream = noStream; bytes = [] })
+      × (after m (past ▹ x) ≡ holding step.idle (after m past .memory))
+  unfolding step.next step.answer step.kept
+  end-answered e = (
+    at-seen end (end-says x e),
+    slot-after
+        ∙ ap (λ (s : Seen). holding (step.next (state (seenOf past)) s) (step.kept (state (seenOf past)) (memory m (seenOf past)) s)) (end-says x e)
+        ∙ ap (holding step.idle) (sym (ap (λ (h : Held). h .memory) (after-is m room past))),
+  )
+
+  stream-answered : (f : StreamFrame) → valueOf (take 2 x) ≡ 0xFF5D → streamReadOf (drop 2 x) ≡ record { answer = Done; frame = f }
+      → (l : Late) × (heard m past x .answer ≡ Answers.Stream l) × (heard m past x .stream ≡ f)
+  unfolding step.answer
+  stream-answered f e q =
+      let is = at-seen (streamFields f) (stream-says x e ∙ ap streamSeen q) in
+      (lateFor (step.lateOf (state (seenOf past)) (f .«lich_idx») (f .«lich_part»)), ap (λ (k : Heard). k .answer) is, ap (λ (k : Heard). k .stream) is)
+
+  header-only : heard m past x .answer ≡ Answers.Header → HeaderSlot x (heard m past x .header)
+  header-only e =
+      let st = state (seenOf past) in
+      let mem = memory m (seenOf past) in
+      let is = heard-is m room past x long in
+      let (h, a) = header-only-answer (step.answer st mem (see x)) (sym (ap (λ (k : Heard). k .answer) is) ∙ e) in
+      let k = subst (ByAnswer st mem (see x)) a (by-answer st mem (see x)) in
+      subst (HeaderSlot x) (sym (ap (λ (k : Heard). k .header) is ∙ ap headerFor a)) (head-only x h long (k .0))
+
+  -- ---- stored pieces
+
+  stored-exactly : (k : ℕ) → (heard m past x .answer ≡ Answers.Stored k) ↔ ((b : List ℕ) × (see x ≡ piece k b) × Pieces k (seenOf past))
+  unfolding step.answer
+  stored-exactly k = (only, if)
+    where
+      only : heard m past x .answer ≡ Answers.Stored k → (b : List ℕ) × (see x ≡ piece k b) × Pieces k (seenOf past)
+      only e =
+          let st = state (seenOf past) in
+          let mem = memory m (seenOf past) in
+          let a = stored-only (step.answer st mem (see x)) k (sym (ap (λ (q : Heard). q .answer) (heard-is m room past x long)) ∙ e) in
+          let (b, slot, is) = subst (ByAnswer st mem (see x)) a (by-answer st mem (see x)) in
+          (b, slot, expected st k (seenOf past) (turn (step.expects st k) k (sym (ap (step.answer st mem) slot) ∙ a)) (opened (seenOf past)))
+
+      if : (b : List ℕ) × (see x ≡ piece k b) × Pieces k (seenOf past) → heard m past x .answer ≡ Answers.Stored k
+      if (b, slot, g) =
+          let st : state (seenOf past) ≡ step.inPacket k = held m (seenOf past) (g .before) (g .h) (g .bs) (g .slots) (g .packets) (all-sound past) .turn ∙ ap step.inPacket (g .many) in
+          ap (λ (q : Heard). q .answer) (at-seen (piece k b) slot) ∙ rw (st, eq-eqb k k refl)
+
+header-answered : (m : List ℕ) (past : Fed) (x h : List ℕ) → length m ≡ 825 → HeaderSlot x h
+    → heard m past x ≡ record { answer = Answers.Header; header = h; stream = noStream; bytes = [] }
+unfolding step.answer step.kept
+header-answered m past x h room k = at-seen m past x room (k .long) (head h) (header-says x h k)
+
+refused-1 : (r : Receiver) (x m : List ℕ) → fits x m ≡ false → (receivedOf r x m ≡ unchanged WrongLength r) × (memoryOf r x m ≡ m)
+unfolding receivedOf memoryOf
+refused-1 r x m e = (rw e, rw e)
+
+refused-12 : (r : Receiver) (x m : List ℕ) → fits x m ≡ true → within (r .phase) ≡ false → (receivedOf r x m ≡ unchanged BadState r) × (memoryOf r x m ≡ m)
+unfolding receivedOf memoryOf
+refused-12 r x m e w = (rw (e, w), rw (e, w))
+
+pub each-slot : EachSlot
+each-slot =
+    record {
+      as-seen = λ m past room. after-is m room past;
+      header-answered = header-answered;
+      header-only = header-only;
+      type-bit = type-bit;
+      stored-exactly = λ m past x k room long. stored-exactly m past x room long k;
+      stream-answered = λ m past x f room long e q. stream-answered m past x room long f e q;
+      end-answered = end-answered;
+      refused-7 = λ m past x room long a b c d. unread-heard m past x room long UnknownSync (unknown-says x a b c d);
+      header-refused = λ m past x why room long e q. unread-heard m past x room long why (header-sync x e ∙ ap (λ (v : Verdict). headerBy v (lsfReadOf (drop 2 x) .frame .bytes)) q);
+      refused-5 =
+          λ m past x room long e q z. unread-heard m past x room long BadHeader
+          (header-sync x e ∙ ap (λ (v : Verdict). headerBy v (lsfReadOf (drop 2 x) .frame .bytes)) q ∙ rw (ne-eqb (crc (lsfReadOf (drop 2 x) .frame .bytes)) 0 z));
+      stream-refused = λ m past x why room long e q. unread-heard m past x room long why (stream-says x e ∙ ap (λ (v : Verdict). streamBy v (streamReadOf (drop 2 x) .frame)) q);
+      packet-refused =
+          λ m past x why room long e q. unread-heard m past x room long why
+          (packet-says x e ∙ ap (λ (v : Verdict). packetBy v (packetReadOf (drop 2 x) .frame .counter) (packetReadOf (drop 2 x) .frame .payload)) q);
+      refusal-keeps = λ m past x why room long e. refusal-keeps m past x room long why e;
+      refused-1 = refused-1;
+      refused-12 = refused-12;
+    }

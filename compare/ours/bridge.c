@@ -3,15 +3,44 @@
  *
  * A call is words of eight bytes: the length of the whole in bytes, the function's place in the list, the number of
  * arguments, and for each two words: a number and NUMBER, or 0 and the size of the memory that is lent. What that memory
- * holds comes after. The answer is a word and the lent memory. The library's functions take whole numbers and pointers
+ * holds comes after. The answer is a word and the lent memory. The functions of the list take whole numbers and pointers
  * only, so that words are all that has to be passed, and too many of them do no harm. */
+#include "m17.h"
+
 typedef unsigned long word;
 typedef unsigned char byte;
 
-#define F(name) extern void name(void);
-#include "functions.h"
-#undef F
-#define F(name) name,
+/* `src/receiver.rs` holds its own structs to the same sizes and places. */
+#define AT(type, field, place) _Static_assert(offsetof(type, field) == place, #type "." #field)
+_Static_assert(sizeof(m17_receiver) == 40 && _Alignof(m17_receiver) == 8, "m17_receiver");
+AT(m17_receiver, count, 0);
+AT(m17_receiver, phase, 8);
+AT(m17_receiver, parts, 9);
+_Static_assert(sizeof(m17_received) == 112 && _Alignof(m17_received) == 8, "m17_received");
+AT(m17_received, number, 0);
+AT(m17_received, next, 8);
+AT(m17_received, frame_number, 48);
+AT(m17_received, said, 50);
+AT(m17_received, answer, 51);
+AT(m17_received, header, 52);
+AT(m17_received, lich_idx, 82);
+AT(m17_received, lich_part, 83);
+AT(m17_received, end_of_stream, 88);
+AT(m17_received, stream_data, 89);
+
+/* The receiver's structs go by value: these two take them by pointers. */
+static void receiver_new(m17_receiver *new)
+{
+    *new = m17_receiver_new();
+}
+
+static void receive(const m17_receiver *state, const uint8_t *slot, size_t slot_len, uint8_t *memory, size_t memory_len,
+                    m17_received *answer)
+{
+    *answer = m17_receive(*state, slot, slot_len, memory, memory_len);
+}
+
+#define F(name) (void (*)(void))name,
 static void (*const functions[])(void) = {
 #include "functions.h"
 };

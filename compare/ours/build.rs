@@ -14,7 +14,7 @@ fn main() {
 }
 
 fn bridge(folder: &str) {
-    for file in ["bridge.c", "src/c.rs"] {
+    for file in ["bridge.c", "src/c.rs", "types", "../../include/m17.h"] {
         println!("cargo:rerun-if-changed={file}");
     }
     let out = PathBuf::from(env::var_os("OUT_DIR").unwrap());
@@ -22,7 +22,7 @@ fn bridge(folder: &str) {
     let program = out.join("bridge");
     let done = Command::new("clang")
         .args(["--target=x86_64-linux-gnu", "-O2", "-ffreestanding", "-fno-stack-protector", "-fuse-ld=lld"])
-        .args(["-nostdlib", "-static", "-no-pie", "bridge.c", "-I"])
+        .args(["-nostdlib", "-static", "-no-pie", "bridge.c", "-I", "types", "-I", "../../include", "-I"])
         .arg(&out)
         .arg(format!("{folder}/libm17.a"))
         .arg("-o")
@@ -32,9 +32,14 @@ fn bridge(folder: &str) {
     println!("cargo:rustc-env=BRIDGE={}", program.display());
 }
 
-/// The names of the functions that `c.rs` declares, in its order, for the bridge's table.
+/// The names of the functions that `c.rs` declares, in its order, for the bridge's table. The receiver's two come after,
+/// with their structs behind pointers.
 fn functions() -> String {
     let declared = fs::read_to_string("src/c.rs").unwrap();
     let names = declared.lines().filter_map(|line| line.trim().strip_prefix("fn m17_")?.split('(').next());
-    names.map(|name| format!("F(m17_{name})\n")).collect()
+    names
+        .map(|name| format!("m17_{name}"))
+        .chain(["receiver_new".into(), "receive".into()])
+        .map(|name| format!("F({name})\n"))
+        .collect()
 }

@@ -18,7 +18,7 @@ pub const MEMORY: usize = 825;
 pub enum State {
     Idle,
     /// In a packet, expecting frame n.
-    Packet(u8),
+    Packet(usize),
     /// Gathering: the LICH parts that have come, counted from 0.
     Gathering(Vec<[u8; 5]>),
 }
@@ -37,7 +37,7 @@ pub enum Answer {
     Stream(StreamFrame, Late),
     /// A frame of a packet, stored at its place.
     Stored {
-        index: u8,
+        index: usize,
     },
     /// A packet is handed out: so many bytes from the start of packet memory.
     Packet {
@@ -107,9 +107,9 @@ fn stream(state: &mut State, open: State, body: &[u8]) -> Result<Answer, Refusal
 fn packet(state: &mut State, open: State, memory: &mut [u8], body: &[u8]) -> Result<Answer, Refusal> {
     let PacketFrame { payload, counter } = packet_of(body)?;
     let State::Packet(n) = open else { return Err(8) };
-    let start = 25 * n as usize;
+    let start = 25 * n;
     match counter {
-        PacketFrameCounter::Frame { index } if index == n as usize => {
+        PacketFrameCounter::Frame { index } if index == n => {
             memory[start..start + 25].copy_from_slice(&payload);
             *state = State::Packet(n + 1);
             Ok(Answer::Stored { index: n })

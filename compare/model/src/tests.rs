@@ -110,7 +110,7 @@ fn packets_of_many_lengths() {
         for (place, slot) in before.iter().enumerate() {
             let wanted = match place {
                 0 => Answer::Header(packet_header().0),
-                _ => Answer::Stored { index: place as u8 - 1 },
+                _ => Answer::Stored { index: place - 1 },
             };
             assert_eq!(receiver.take(slot), Ok(wanted));
         }

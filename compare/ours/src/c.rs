@@ -13,9 +13,12 @@ macro_rules! functions {
         mod emulated {
             use crate::bridge::{call, Word};
 
+            /// The bridge's list. The receiver's two stand last.
             #[allow(non_camel_case_types)]
-            enum Place {
+            pub enum Place {
                 $($name,)*
+                receiver_new,
+                receive,
             }
 
             $(

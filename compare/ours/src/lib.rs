@@ -9,6 +9,7 @@ mod collection;
 mod given;
 mod header;
 mod leaves;
+mod receiver;
 mod symbols;
 
 pub use bodies::*;
@@ -17,6 +18,7 @@ pub use collection::*;
 pub use given::Given;
 pub use header::*;
 pub use leaves::*;
+pub use receiver::*;
 pub use symbols::*;
 
 /// Whether the library's functions run under an emulator, where a time says nothing.

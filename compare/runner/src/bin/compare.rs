@@ -1,7 +1,7 @@
 //! compare [--seed N] [--count N] [--full] [NAME...]: runs each comparison, or those whose name begins so.
-use runner::comparison::{Comparison, Ran, Wanted};
+use runner::comparison::{Comparison, Ran, Tally, Wanted};
 use runner::random::Random;
-use runner::{address, collection, fec, header, leaves, lengths, lich, observe, outside, parse, words, write};
+use runner::{address, collection, fec, header, leaves, lengths, lich, observe, outside, parse, receive, words, write};
 use std::process::ExitCode;
 
 struct Asked {
@@ -45,6 +45,12 @@ fn comparisons() -> Vec<Comparison> {
     parts.into_iter().flatten().collect()
 }
 
+fn row(name: &str, tally: &Tally, counts_ties: bool, differs: bool) {
+    let Tally { inputs, answered, refused, ties, known } = tally;
+    let ties = if counts_ties { ties.to_string() } else { "-".into() };
+    println!("{name:18} {inputs:>9} {answered:>9} {refused:>9} {ties:>7} {known:>7} {:>11}", differs as u8);
+}
+
 fn main() -> ExitCode {
     let Asked { seed, wanted, names } = match asked() {
         Ok(asked) => asked,
@@ -64,16 +70,7 @@ fn main() -> ExitCode {
     for comparison in comparisons().iter().filter(|comparison| chosen(comparison.name)) {
         ran += 1;
         let Ran { tally, difference, known } = comparison.run(&mut Random::new(seed), &wanted);
-        let ties = if comparison.counts_ties { tally.ties.to_string() } else { "-".into() };
-        println!(
-            "{:18} {:>9} {:>9} {:>9} {ties:>7} {:>7} {:>11}",
-            comparison.name,
-            tally.inputs,
-            tally.answered,
-            tally.refused,
-            tally.known,
-            difference.is_some() as u8
-        );
+        row(comparison.name, &tally, comparison.counts_ties, difference.is_some());
         if let Some(known) = known {
             println!("  known, the smallest input found: {}", observe::hex(&known.input));
             println!("  the Rust: {}; ours: {}", known.rust, known.ours);
@@ -82,6 +79,17 @@ fn main() -> ExitCode {
             println!("\nThe smallest input found on which {} differs ({}):", comparison.name, comparison.layout);
             println!("  {}", observe::hex(&difference.input));
             println!("  the Rust: {}\n  ours:     {}", difference.rust, difference.ours);
+            return ExitCode::FAILURE;
+        }
+    }
+    if chosen("receive") {
+        ran += 1;
+        let (heard, difference) = receive::run(&mut Random::new(seed), &wanted);
+        row("receive", &heard.tally(), false, difference.is_some());
+        println!("  answers 1 to 7: {:?}", &heard.answers[1..]);
+        println!("  refusals 1 to 12: {:?}", &heard.refusals[1..]);
+        if let Some(difference) = difference {
+            difference.print();
             return ExitCode::FAILURE;
         }
     }

@@ -1,5 +1,6 @@
 -- The readings on the bench that the document marks with a star, computed from the definitions: one list, held to the values that the
--- document gives. Assumes nothing.
+-- document gives, and with them a packet of three bytes and a header whose CRC is zero, so that what is said of those speaks of something.
+-- Assumes nothing.
 use mathlib.Core.Path.{_≡_, refl}
 use mathlib.Core.List.{List, [], _∷_, _++_}
 use Prim.Native.Nat.{ℕ, _-_, _^_}
@@ -42,6 +43,7 @@ computed =
     ∷ coding.encodedOf Header (0x80 ∷ replicate 29 0) .bytes
     ∷ coding.encodedOf Stream (0x80 ∷ replicate 17 0) .bytes
     ∷ coding.encodedOf Packet (0x80 ∷ replicate 25 0) .bytes
+    ∷ (crc (65 ∷ 0x20 ∷ 0x6E ∷ []) ∷ crc (replicate 28 0 ++ (0x95 ∷ 0xE0 ∷ [])) ∷ [])
     ∷ []
 
 unfoldable pub given : List (List ℕ)
@@ -56,6 +58,7 @@ given =
     ∷ (0xEB ∷ replicate 45 0)
     ∷ (0xD6 ∷ 0xC0 ∷ replicate 44 0)
     ∷ (0xD7 ∷ 0x80 ∷ replicate 44 0)
+    ∷ (0 ∷ 0 ∷ [])
     ∷ []
 
 pub bench : computed ≡ given

@@ -7,7 +7,7 @@ pub fn get_bit(bytes: &[u8], place: usize) -> Result<u8> {
     Ok(out)
 }
 
-/// Sets the bit to the low bit of `value`.
+/// 0 clears the bit, any other value sets it.
 pub fn set_bit(bytes: &mut [u8], place: usize, value: u8) -> Result<()> {
     Refusal::judge(unsafe { c::m17_set_bit(bytes.as_mut_ptr(), bytes.len(), place, value) })
 }

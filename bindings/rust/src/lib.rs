@@ -1,5 +1,5 @@
-//! The M17 bit codec, proved. What is done here is to hand arguments to the static library and its answers back; the
-//! names are those of m17core where it has them.
+//! The M17 bit codec. The static library is proved; what stands here hands arguments over and answers back, and is
+//! tested. The names are those of m17core where it has them.
 //!
 //! A function whose arguments can be wrong answers with a [`Refusal`]. Where the types leave nothing to refuse, the
 //! answer comes as it is.

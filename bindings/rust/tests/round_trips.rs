@@ -138,7 +138,7 @@ fn leaves() {
         assert_eq!(decode_address(encode_address(&address).unwrap()), address);
     }
     for value in 0..4096 {
-        assert_eq!(golay::decode(golay::encode(value).unwrap() ^ 0x0801_01), Ok(value));
+        assert_eq!(golay::decode(golay::encode(value).unwrap() ^ 0x0008_0101), Ok(value));
     }
     for (kind, plain, coded) in [(Kind::Header, 30, 46), (Kind::Stream, 18, 34), (Kind::Packet, 25, 46)] {
         let given: [u8; 30] = bytes(9);
@@ -149,7 +149,7 @@ fn leaves() {
         assert_eq!(fec::decode(kind, &sent[..coded]), Ok(whole));
     }
     let mut bits = [0; 3];
-    bits::set_bit(&mut bits, 9, 1).unwrap();
+    bits::set_bit(&mut bits, 9, 2).unwrap();
     assert_eq!((bits, bits::get_bit(&bits, 9), bits::get_bit(&bits, 8)), ([0, 0x40, 0], Ok(1), Ok(0)));
     assert_eq!(interleave(&interleave(&bytes::<46>(2)).unwrap()), Ok(bytes(2)));
 }

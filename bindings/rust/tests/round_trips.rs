@@ -25,8 +25,12 @@ fn header() {
     for source in names() {
         for destination in names() {
             let voice = LsfFrame::new_voice(&source, &destination).unwrap();
-            assert_eq!((voice.mode(), voice.data_type()), (Mode::Stream, DataType::Voice));
             let mut frame = LsfFrame::new_packet(&source, &destination).unwrap();
+            for new in [&voice, &frame] {
+                assert_eq!((new.source(), new.destination()), (source.clone(), destination.clone()));
+                assert_eq!((new.encryption_type(), new.check_crc()), (EncryptionType::None, 0));
+            }
+            assert_eq!((voice.mode(), voice.data_type()), (Mode::Stream, DataType::Voice));
             assert_eq!((frame.mode(), frame.data_type()), (Mode::Packet, DataType::Data));
             frame.set_mode(Mode::Stream);
             frame.set_data_type(DataType::VoiceAndData);
@@ -45,6 +49,7 @@ fn header() {
     for mode in [Mode::Packet, Mode::Stream] {
         let mut frame = LsfFrame(bytes(3));
         let meta = frame.meta();
+        assert_eq!(meta, frame.0[14..28]);
         frame.set_mode(mode);
         assert_eq!((frame.mode(), frame.meta(), frame.check_crc()), (mode, meta, 0));
     }
@@ -151,5 +156,7 @@ fn leaves() {
     let mut bits = [0; 3];
     bits::set_bit(&mut bits, 9, 2).unwrap();
     assert_eq!((bits, bits::get_bit(&bits, 9), bits::get_bit(&bits, 8)), ([0, 0x40, 0], Ok(1), Ok(0)));
+    bits::set_bit(&mut bits, 9, 0).unwrap();
+    assert_eq!(bits, [0; 3]);
     assert_eq!(interleave(&interleave(&bytes::<46>(2)).unwrap()), Ok(bytes(2)));
 }

@@ -55,7 +55,7 @@ fn address_bytes(address: &Address) -> Vec<u8> {
     [&[address.kind], &address.value.to_be_bytes()[..], &address.callsign].concat()
 }
 
-fn address_of(bytes: &[u8]) -> Address {
+pub fn address_of(bytes: &[u8]) -> Address {
     let value = u64::from_be_bytes(bytes[1..9].try_into().unwrap());
     Address { kind: bytes[0], value, callsign: bytes[9..18].try_into().unwrap() }
 }
@@ -65,7 +65,7 @@ fn step_bytes(setter: usize, address: &Address) -> Vec<u8> {
 }
 
 /// A step of the shared domain, now and then none.
-fn step(random: &mut Random) -> Vec<u8> {
+pub fn step(random: &mut Random) -> Vec<u8> {
     let setter = random.below(7);
     let mut given = any_shared(random);
     match setter {
@@ -102,7 +102,7 @@ fn sequences(random: &mut Random, count: usize, step: fn(&mut Random) -> Vec<u8>
 }
 
 /// The header as the Rust's setter leaves it, or the refusal that is called for.
-fn set_by_rust(header: &Header, setter: u8, given: &Address) -> Result<Header, Refused> {
+pub fn set_by_rust(header: &Header, setter: u8, given: &Address) -> Result<Header, Refused> {
     let mut frame = LsfFrame(*header);
     let number = given.kind;
     let address = || shared(given.kind, given.value, &given.callsign);

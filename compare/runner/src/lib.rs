@@ -1,4 +1,4 @@
-//! What the two programs share: inputs, the comparisons, and a reading of document 01's nearest word and symbols.
+//! What the programs share: inputs, the comparisons, and a reading of document 01's nearest word and symbols.
 
 pub mod address;
 pub mod bodies;

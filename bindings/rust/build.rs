@@ -4,8 +4,10 @@ use std::{env, path::PathBuf, process::exit};
 fn main() {
     println!("cargo:rerun-if-env-changed=OKIHEMON_LIB");
     let target = env::var("TARGET").unwrap_or_default();
-    if !target.starts_with("x86_64-") || !target.contains("linux") {
-        stop(&format!("libm17.a is for x86-64 Linux, and this build is for {target}"));
+    if env::var_os("OKIHEMON_LIB").is_none() && (!target.starts_with("x86_64-") || !target.contains("linux")) {
+        stop(&format!(
+            "libm17.a is for x86-64 Linux, and this build is for {target}; OKIHEMON_LIB may name a folder with one for it"
+        ));
     }
     let repository = PathBuf::from(concat!(env!("CARGO_MANIFEST_DIR"), "/../../target/staticlib"));
     let folder = env::var_os("OKIHEMON_LIB").map_or(repository, PathBuf::from);

@@ -1,11 +1,16 @@
-//! Links the static library that `rt staticlib m17` has written. It is for x86-64: for another processor it is linked
-//! into a bridge instead, a program that an emulator runs.
+//! Links the static library (`cfg(linked)`): that of `rt staticlib m17` on x86-64, which it is for, or with NATIVE=yes the
+//! one that `bench/native` has written for this processor. Else it goes into a bridge, a program that an emulator runs.
 use std::{env, fs, path::PathBuf, process::Command};
 
 fn main() {
-    let folder = concat!(env!("CARGO_MANIFEST_DIR"), "/../../target/staticlib");
+    println!("cargo:rustc-check-cfg=cfg(linked)");
+    println!("cargo:rerun-if-env-changed=NATIVE");
+    let native = env::var("NATIVE").is_ok_and(|word| word == "yes");
+    let target = concat!(env!("CARGO_MANIFEST_DIR"), "/../../target");
+    let folder = &format!("{target}/{}", if native { "native" } else { "staticlib" });
     println!("cargo:rerun-if-changed={folder}/libm17.a");
-    if env::var("CARGO_CFG_TARGET_ARCH").unwrap() == "x86_64" {
+    if native || env::var("CARGO_CFG_TARGET_ARCH").unwrap() == "x86_64" {
+        println!("cargo:rustc-cfg=linked");
         println!("cargo:rustc-link-search=native={folder}");
         println!("cargo:rustc-link-lib=static=m17");
     } else {

@@ -4,12 +4,12 @@ use crate::given::{Answer, Argument, Given};
 
 macro_rules! functions {
     ($(fn $name:ident($($given:ident: $kind:ty),* $(,)?) $(-> $answer:ty)?;)*) => {
-        #[cfg(target_arch = "x86_64")]
+        #[cfg(linked)]
         extern "C" {
             $(pub fn $name($($given: $kind),*) $(-> $answer)?;)*
         }
 
-        #[cfg(not(target_arch = "x86_64"))]
+        #[cfg(not(linked))]
         mod emulated {
             use crate::bridge::{call, Word};
 
@@ -43,7 +43,7 @@ macro_rules! functions {
     };
 }
 
-#[cfg(not(target_arch = "x86_64"))]
+#[cfg(not(linked))]
 pub use emulated::*;
 
 functions! {

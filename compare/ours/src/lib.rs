@@ -1,6 +1,6 @@
 //! The static library, each function behind a safe one of the same meaning.
 
-#[cfg(not(target_arch = "x86_64"))]
+#[cfg(not(linked))]
 mod bridge;
 mod c;
 
@@ -22,7 +22,7 @@ pub use receiver::*;
 pub use symbols::*;
 
 /// Whether the library's functions run under an emulator, where a time says nothing.
-pub const EMULATED: bool = cfg!(not(target_arch = "x86_64"));
+pub const EMULATED: bool = cfg!(not(linked));
 
 /// A refusal: its number, and whether lent memory was written all the same, which is never right.
 #[derive(Clone, Copy, Debug, PartialEq, Eq)]

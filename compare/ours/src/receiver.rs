@@ -43,7 +43,7 @@ const _: () = {
     assert!(offset_of!(Received, stream_data) == 89);
 };
 
-#[cfg(target_arch = "x86_64")]
+#[cfg(linked)]
 mod c {
     use super::{Received, Receiver};
 
@@ -60,7 +60,7 @@ mod c {
 }
 
 /// Through the bridge the structs go behind pointers.
-#[cfg(not(target_arch = "x86_64"))]
+#[cfg(not(linked))]
 mod c {
     use super::{Received, Receiver};
     use crate::bridge::{call, Word};

@@ -18,6 +18,7 @@ pub mod random;
 pub mod receive;
 pub mod runs;
 pub mod slots;
+pub mod stack;
 pub mod symbols;
 pub mod words;
 pub mod write;

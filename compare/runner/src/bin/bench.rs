@@ -1,8 +1,11 @@
-//! bench [--seed N] [--rounds N]: times the Rust's functions and ours in turn on the same inputs.
+//! bench [--seed N] [--rounds N]: times the Rust's functions and ours in turn on the same inputs, and says how much stack
+//! they use.
+use model::{State, MEMORY};
 use oracle::protocol::{LsfFrame, PacketFrame, PacketFrameCounter, StreamFrame};
 use oracle::Kind;
 use runner::code::lengths;
-use runner::{bodies, frames, lich, random::Random, symbols::symbols, write};
+use runner::slots::{damage, header, message, packet, stream_slot, Slot};
+use runner::{bodies, frames, lich, random::Random, stack::depth, symbols::symbols, write};
 use std::borrow::Borrow;
 use std::hint::black_box;
 use std::time::Instant;
@@ -17,7 +20,8 @@ struct Bench {
 }
 
 impl Bench {
-    fn race<I, T, A, B>(&self, name: &str, inputs: &[I], rust: impl Fn(&T) -> A, ours: impl Fn(&T) -> B)
+    /// The nanoseconds of a call, the Rust's and ours.
+    fn race<I, T, A, B>(&self, name: &str, inputs: &[I], rust: impl Fn(&T) -> A, ours: impl Fn(&T) -> B) -> [f64; 2]
     where
         I: Borrow<T>,
         T: ?Sized,
@@ -31,6 +35,7 @@ impl Bench {
         }
         let [rust, ours] = [0, 1].map(|side| best.iter().map(|lot| lot[side]).sum::<f64>() / inputs.len() as f64);
         println!("{name:28} {:>7} {rust:>10.1} {ours:>10.1} {:>7.3}", inputs.len(), ours / rust);
+        [rust, ours]
     }
 
     fn inputs<I>(&mut self, count: usize, mut one: impl FnMut(&mut Random) -> I) -> Vec<I> {
@@ -148,6 +153,70 @@ fn writing(bench: &mut Bench) {
     bench.race("encode packet", &packets, of, |(_, frame)| ours::encode_packet(frame));
 }
 
+/// A run of slots from the start, through the model over the Rust's readings and through ours.
+fn by_model(run: &[Slot]) -> usize {
+    let (mut state, mut memory) = (State::Idle, [0; MEMORY]);
+    run.iter().filter(|slot| model::receive(&mut state, &mut memory, slot).is_ok()).count()
+}
+
+fn by_ours(run: &[Slot]) -> usize {
+    let (mut state, mut memory) = (ours::receiver_new(), [0; MEMORY]);
+    let mut taken = |slot: &Slot| {
+        let received = ours::receive(state, slot, &mut memory);
+        state = received.next;
+        received.said == 0
+    };
+    run.iter().filter(|slot| taken(slot)).count()
+}
+
+fn receiving(bench: &mut Bench) {
+    let long = |random: &mut Random| {
+        let message = message(random, MEMORY);
+        packet(random, &message)
+    };
+    let sounds = |random: &mut Random| {
+        let header = header(random, true);
+        (0..34).map(|at| stream_slot(random, &header, at % 6)).collect()
+    };
+    let damaged = |random: &mut Random| {
+        let mut run = long(random);
+        run.iter_mut().for_each(|slot| damage(random, slot));
+        run
+    };
+    let sorts: [(&str, &dyn Fn(&mut Random) -> Vec<Slot>); 3] =
+        [("packets", &long), ("damaged packets", &damaged), ("streams *", &sounds)];
+    for (name, one) in sorts {
+        let runs = bench.inputs(200, one);
+        let slots = runs[0].len() as f64;
+        let name = format!("receive {slots} slots, {name}");
+        let taken = bench.race(&name, &runs, by_model, by_ours);
+        let [model, ours] = taken.map(|nanoseconds| slots * 1e9 / nanoseconds);
+        println!("{:28} {:>7} {model:>10.0} {ours:>10.0}", "  slots a second", "");
+    }
+}
+
+/// The deepest that a call goes, over the kinds.
+fn depths(bench: &mut Bench) {
+    println!("\n{:36} {:>10} {:>10}", "bytes of stack", "the Rust", "ours");
+    let say = |name: &str, rust: usize, ours: usize| println!("{name:36} {rust:>10} {ours:>10}");
+    let bodies = Kind::ALL.map(|kind| body(kind, &mut bench.random, 3));
+    let [header, stream, packet] = &bodies;
+    let [header_on_air, stream_on_air, packet_on_air] = Kind::ALL.map(|kind| symbols(kind, &bodies[kind as usize]));
+    say("read header", depth(|| bodies::read_lsf(header)), depth(|| ours::read_lsf(header)));
+    say("read stream", depth(|| bodies::read_stream(stream)), depth(|| ours::read_stream(stream)));
+    say("read packet", depth(|| bodies::read_packet(packet)), depth(|| ours::read_packet(packet)));
+    say("parse header", depth(|| oracle::parse_lsf(&header_on_air)), depth(|| ours::parse_lsf(&header_on_air)));
+    say("parse stream", depth(|| oracle::parse_stream(&stream_on_air)), depth(|| ours::parse_stream(&stream_on_air)));
+    say("parse packet", depth(|| oracle::parse_packet(&packet_on_air)), depth(|| ours::parse_packet(&packet_on_air)));
+    let header = [7; 30];
+    say("encode header", depth(|| oracle::encode_lsf(&LsfFrame(header))), depth(|| ours::encode_lsf(&header)));
+    let run: Vec<Slot> = {
+        let message = message(&mut bench.random, MEMORY);
+        runner::slots::packet(&mut bench.random, &message)
+    };
+    say("receive a packet", depth(|| by_model(&run)), depth(|| by_ours(&run)));
+}
+
 fn main() {
     let words: Vec<String> = std::env::args().skip(1).collect();
     let number = |name: &str, usual: u64| {
@@ -164,5 +233,7 @@ fn main() {
     fec(&mut bench);
     reading(&mut bench);
     writing(&mut bench);
-    println!("* a stand-in for the outside crate does the work on the Rust's side");
+    receiving(&mut bench);
+    println!("* a stand-in for the outside crate does the work on the Rust's side; the Rust has no receiver: a model over its readings");
+    depths(&mut bench);
 }

@@ -33,7 +33,7 @@ addressValue Broadcast s = 0xFFFFFFFFFFFF
 abbrev pub withoutCallsign : Heard → Reading
 withoutCallsign h = record { answer = h; callsign = replicate 9 0 }
 
--- the address of a value
+-- the address of a value below 2^48
 unfoldable pub addressOf : ℕ → Reading
 addressOf v =
     cond (eqb v 0) (withoutCallsign (Read Invalid))

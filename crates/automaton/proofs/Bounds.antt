@@ -10,15 +10,12 @@ use Rattle.automaton.specs.Seen.{Seen, stream, Sound}
 use Rattle.automaton.specs.Step.{State, idle, inPacket, gathering, Answer, header, stored, packet, fields, ended, refused, pieces, put, judge, answer, kept}
 use Rattle.automaton.specs.Runs.{Slots, start, _▸_, AllSound, state, memory}
 use Rattle.automaton.proofs.Cases.{never}
-use Rattle.automaton.proofs.ByAnswer.{ByAnswer, by-answer}
+use Rattle.automaton.specs.Demand3.{ByAnswer, Bounded}
+use Rattle.automaton.proofs.ByAnswer.{by-answer}
 use Rattle.automaton.proofs.Verdicts.{good-only}
-use Rattle.automaton.proofs.Opened.{Counted, Opened, opened}
+use Rattle.automaton.specs.Opened.{Counted, Opened}
+use Rattle.automaton.proofs.Opened.{opened}
 use Rattle.automaton.proofs.Held.{held}
-
-abbrev pub Bounded : State → Type 0
-Bounded idle = Unit {0}
-Bounded (inPacket n) = n ≤ 32
-Bounded (gathering k q) = (1 ≤ k) × (k ≤ 5) × (length q ≡ 5 * k)
 
 counted-long : (k : ℕ) (q : List ℕ) (past : Slots) → AllSound past → Counted k q past → length q ≡ 5 * k
 counted-long zero q past os g = ap length g

@@ -1,53 +1,12 @@
 -- Demand 3 over what slots say: slots are fed in order to one receiver from its start, its packet memory m untouched between calls.
 -- Assumes nothing.
-use mathlib.Core.Path.{_≡_}
-use mathlib.Core.Logic.{_↔_}
-use mathlib.Core.List.{List, _++_}
-use Prim.Native.Nat.{ℕ, _+_, _%_, _<_}
-use lib.ListN.{length, drop}
-use Rattle.refusal.specs.declared.Refusal.{Refusal}
-use Rattle.crc.specs.Crc.{crc}
-use Rattle.automaton.specs.Seen.{Fields, Seen, head, Sound}
-use Rattle.automaton.specs.Step.{State, idle, packet, fields, refused, late, spoiled, next, answer, kept}
-use Rattle.automaton.specs.Runs.{Slots, start, _▸_, _▸▸_, AllSound, Sounds, state, memory, said, Packet, part, Six, sent, sending}
+use Rattle.automaton.specs.Demand3.{OverSeen}
 use Rattle.automaton.proofs.ByAnswer as ByAnswer
-use Rattle.automaton.proofs.ByAnswer.{ByAnswer}
 use Rattle.automaton.proofs.Fresh as Fresh
 use Rattle.automaton.proofs.HandedOut as HandedOut
 use Rattle.automaton.proofs.LateHeader as LateHeader
 use Rattle.automaton.proofs.Eleven as Eleven
 use Rattle.automaton.proofs.Bounds as Bounds
-use Rattle.automaton.proofs.Bounds.{Bounded}
-
-pub record OverSeen : Type 0 where
-  -- Whatever came before, damage of any kind included: from a header slot that reads with a good CRC onward, its own answer first, every answer
-  -- and, in what is handed out, every packet byte is that of a receiver started at that slot, whatever the two memories held.
-  pub fresh-header : (m m′ : List ℕ) (past : Slots) (h : List ℕ) → said m past (head h) ≡ said m′ start (head h)
-  pub fresh : (m m′ : List ℕ) (past : Slots) (h : List ℕ) (future : List Seen) → Sounds future → (s : Seen) → Sound s
-      → said m (past ▸ head h ▸▸ future) s ≡ said m′ (start ▸ head h ▸▸ future) s
-  -- A packet is handed out exactly when the slots just gone are a packet header, frames 0 upward with none missing, and a final frame of
-  -- 1 to 25 bytes, three bytes or more in all, CRC zero; it is their bytes joined.
-  pub handed-out : (m : List ℕ) (gone : Slots) (s : Seen) → AllSound gone → Sound s → (total : ℕ) (bytes : List ℕ)
-      → (said m gone s ≡ record { answer = packet total; bytes = bytes }) ↔ (Packet gone s bytes × (total ≡ length bytes))
-  -- Memory is then the packet's bytes, and after them what it held at the packet's header.
-  pub only-those : (m : List ℕ) (gone : Slots) → AllSound gone → (s : Seen) → Sound s → (bytes : List ℕ) (k : Packet gone s bytes)
-      → kept (state gone) (memory m gone) s ≡ bytes ++ drop (length bytes) (memory m (k .before ▸ head (k .h)))
-  -- In any state a stored piece changes its own 25 bytes only, and a final piece its length; any other answer leaves memory as it is.
-  pub by-answer : (st : State) (m : List ℕ) (s : Seen) → ByAnswer st m s (answer st m s)
-  -- A refusal leaves the receiver idle.
-  pub refusal-idles : (st : State) (m : List ℕ) (s : Seen) (why : Refusal) → answer st m s ≡ refused why → next st s ≡ idle
-  -- A late header comes exactly when the last six slots are stream slots counted 0 to 5 with CRC zero.
-  pub late-header : (m : List ℕ) (gone : Slots) (s : Seen) (c : ℕ) (p : List ℕ) (f : Fields) (bytes : List ℕ)
-      → (said m gone s .answer ≡ fields c p f (late bytes)) ↔ ((c ≡ 5) × Six gone s p f bytes × (crc bytes ≡ 0))
-  -- The mark "spoiled" comes exactly when they are so counted and it is not zero.
-  pub spoiled-mark : (m : List ℕ) (gone : Slots) (s : Seen) (c : ℕ) (p : List ℕ) (f : Fields)
-      → (said m gone s .answer ≡ fields c p f spoiled) ↔ ((c ≡ 5) × (bytes : List ℕ) × Six gone s p f bytes × (crc bytes ≡ 0 → ⊥))
-  -- Eleven stream slots in a row of one sender, from any of its counts on and whatever came before, bring its header.
-  pub eleven : (m : List ℕ) (past : Slots) (h : List ℕ) (f : ℕ → Fields) (i : ℕ) → length h ≡ 30 → crc h ≡ 0
-      → (j : ℕ) × (j < 11) × (said m (past ▸▸ sending h f i j) (sent h f (i + j)) .answer ≡ fields ((i + j) % 6) (part h ((i + j) % 6)) (f (i + j)) (late h))
-  -- No state that a run reaches is refused with 12, and packet memory keeps its length.
-  pub bounded : (past : Slots) → AllSound past → Bounded (state past)
-  pub memory-long : (m : List ℕ) (past : Slots) → AllSound past → length m ≡ 825 → length (memory m past) ≡ 825
 
 pub over-seen : OverSeen
 over-seen =

@@ -13,9 +13,11 @@ use Rattle.automaton.specs.Seen.{Seen, head, final, Sound}
 use Rattle.automaton.specs.Step.{State, idle, inPacket, gathering, packet, judge, answer, kept}
 use Rattle.automaton.specs.Runs.{Slots, _▸_, AllSound, state, memory, handed, Said, said, join, Packet}
 use Rattle.automaton.proofs.Cases.{never}
-use Rattle.automaton.proofs.ByAnswer.{ByAnswer, by-answer}
+use Rattle.automaton.specs.Demand3.{ByAnswer}
+use Rattle.automaton.proofs.ByAnswer.{by-answer}
 use Rattle.automaton.proofs.Verdicts.{good-only, good-if}
-use Rattle.automaton.proofs.Opened.{Opened, opened}
+use Rattle.automaton.specs.Opened.{Opened}
+use Rattle.automaton.proofs.Opened.{opened}
 use Rattle.automaton.proofs.Held.{Held, held, put-after}
 
 -- the pieces are what memory begins with

@@ -12,8 +12,10 @@ use Rattle.automaton.specs.Seen.{Fields, Seen, stream}
 use Rattle.automaton.specs.Step.{State, idle, inPacket, gathering, Late, nothing, late, spoiled, Answer, fields, count, parts, whole, next, answer}
 use Rattle.automaton.specs.Runs.{Slots, state, memory, said, Six}
 use Rattle.automaton.proofs.Cases.{never}
-use Rattle.automaton.proofs.ByAnswer.{ByAnswer, by-answer}
-use Rattle.automaton.proofs.Opened.{Counted, Opened, opened}
+use Rattle.automaton.specs.Demand3.{ByAnswer}
+use Rattle.automaton.proofs.ByAnswer.{by-answer}
+use Rattle.automaton.specs.Opened.{Counted, Opened}
+use Rattle.automaton.proofs.Opened.{opened}
 
 -- more than the fields is answered of six slots counted 0 to 5
 abbrev Sixth : Slots → Seen → ℕ → List ℕ → Fields → Late → Type 0

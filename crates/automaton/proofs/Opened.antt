@@ -1,9 +1,8 @@
 -- What the slots just gone were, by the state that they led to: a packet header and pieces 0 to n - 1, or stream slots counted 0 to k - 1.
 -- Assumes nothing.
 use mathlib.Core.Path.{_≡_, refl, sym, ap, ap₂, _∙_}
-use mathlib.Core.Bool.{false}
 use mathlib.Core.List.{List, [], _∷_, _++_}
-use Prim.Native.Nat.{ℕ, zero, suc, _+_, _≤_}
+use Prim.Native.Nat.{ℕ, suc, _+_, _≤_}
 use native.Mathlib.Omega.{arith}
 use lib.ListN.{length, length-append}
 use lib.Dec.{eqb}
@@ -11,27 +10,8 @@ use borrow.Author.Tests.{eqb-true, eqb-false}
 use Rattle.automaton.specs.Seen.{Fields, Seen, head, piece, final, stream, end, unread, isStream}
 use Rattle.automaton.specs.Step.{State, idle, inPacket, gathering, expects, count, parts, next}
 use Rattle.automaton.specs.Runs.{Slots, start, _▸_, _▸▸_, state, numbered}
+use Rattle.automaton.specs.Opened.{Pieces, Counted, Opened}
 use Rattle.automaton.proofs.Cases.{by-test}
-
--- a packet header and pieces 0 to n - 1
-pub record Pieces (n : ℕ) (past : Slots) : Type 0 where
-  pub before : Slots
-  pub h : List ℕ
-  pub bs : List (List ℕ)
-  pub slots : past ≡ before ▸ head h ▸▸ numbered 0 bs
-  pub packets : isStream h ≡ false
-  pub many : length bs ≡ n
-
--- stream slots counted 0 to k - 1, q their parts joined
-abbrev pub Counted : ℕ → List ℕ → Slots → Type 0
-Counted zero q past = q ≡ []
-Counted (suc k) q past =
-    (before : Slots) × (p : List ℕ) × (f : Fields) × (r : List ℕ) × (past ≡ before ▸ stream k p f) × (q ≡ r ++ p) × Counted k r before
-
-abbrev pub Opened : State → Slots → Type 0
-Opened idle past = Unit {0}
-Opened (inPacket n) past = Pieces n past
-Opened (gathering k q) past = (1 ≤ k) × (k ≤ 5) × Counted k q past
 
 -- one piece more at the end
 numbered-more : (p : Slots) (n : ℕ) (bs : List (List ℕ)) (b : List ℕ) → p ▸▸ numbered n (bs ++ (b ∷ [])) ≡ (p ▸▸ numbered n bs) ▸ piece (n + length bs) b

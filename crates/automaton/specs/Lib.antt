@@ -1,3 +1,5 @@
 pub mod Seen
 pub mod Step
 pub mod Runs
+pub mod Opened
+pub mod Demand3

@@ -72,6 +72,7 @@ join (b ∷ bs) = b ++ join bs
 -- three bytes or more in all, CRC zero; bytes are theirs joined
 pub record Packet (gone : Slots) (s : Seen) (bytes : List ℕ) : Type 0 where
   pub before : Slots
+  -- the header's bytes, those of each frame before the final one, and the final one's length and bytes
   pub h : List ℕ
   pub bs : List (List ℕ)
   pub len : ℕ

@@ -40,7 +40,7 @@ pub data Answer : Type 0 where
 
 -- ---- a packet slot
 
--- is it frame k's turn? A frame's number is at most 31, so that none is expected after 32 frames
+-- is it frame k's turn? After 32 frames n is 32, and no frame has that number: `Sound` has at most 31
 abbrev pub expects : State → ℕ → Bool
 expects idle k = false
 expects (inPacket n) k = eqb k n

@@ -1,58 +1,29 @@
 -- When a LICH is answered, and when it is refused: each of its four words is within three flips of a codeword, or one is not. Assumes nothing.
 use mathlib.Core.Path.{_≡_, refl, sym, ap, _∙_, subst}
-use mathlib.Core.Bool.{Bool}
-use mathlib.Core.List.{List}
-use mathlib.Core.Option.{Option, some, none}
-use Prim.Native.Nat.{ℕ, zero, suc, _+_, _*_, _^_, _≤_, _<_}
+use mathlib.Core.Logic.{inl, inr}
+use mathlib.Core.List.{List, [], _∷_}
+use mathlib.Core.Option.{none}
+use Prim.Native.Nat.{ℕ, zero, suc, _+_, _*_, _^_, _<_}
 use native.Mathlib.Decide.{ℕ-discrete}
 use native.Mathlib.Omega.{arith}
-use lib.ListN.{length, take, drop, length-drop}
-use lib.Seq.{length-take-le}
+use lib.ListN.{length}
 use borrow.Author.Tests.{ne-eqb}
 use Rattle.laws.specs.Value.{Bytes}
-use Rattle.refusal.specs.Number.{saidOf}
 use Rattle.refusal.specs.declared.Refusal.{Refusal}
-use Rattle.refusal.specs.declared.Refusal.the-variants.{WrongLength, TooFar, BadGolay}
-use Rattle.refusal.specs.declared.Verdict.the-variants.{Done}
-use Rattle.bits.specs.Bits.{bitsOf, bytesOf}
+use Rattle.refusal.specs.declared.Refusal.the-variants.{WrongLength, BadGolay}
 use Rattle.golay.specs.declared.Reading.{Reading}
 use Rattle.golay.specs.declared.Reading.the-variants as golay
-use Rattle.golay.specs.Golay.{golay as codeword, apart, decodedOf as golayReadOf}
+use Rattle.golay.specs.Golay.{decodedOf as golayReadOf}
 use Rattle.golay.proofs.Only.{reads, three-flips}
-use Rattle.fec.specs.declared.Kind.{Kind}
-use Rattle.fec.specs.declared.Kind.the-variants.{Header, Stream, Packet}
-use Rattle.fec.specs.declared.Decoded.{Decoded}
-use Rattle.fec.specs.Nearest.{readOf}
-use Rattle.fec.specs.Kinds.{bitsIn, codedBytes, limitOf, sendsIn, decoded, notDecoded, found, decodedOf}
-use Rattle.fec.proofs.Bodies.{decoded-long}
-use Rattle.fec.proofs.When.{Near, Far, answered-when, refused-when}
+use Rattle.decode.specs.When.{OneOf, Words, Lost, LichWhen}
 use Rattle.decode.specs.declared.LichRead.{LichRead}
-use Rattle.decode.specs.declared.LsfRead.{LsfRead}
-use Rattle.decode.specs.declared.StreamRead.{StreamRead}
-use Rattle.decode.specs.declared.PacketRead.{PacketRead}
 use Rattle.decode.specs.Lich.{numberOfCounted, lichRefused, lichFrom, wordAt, lichReadOf}
-use Rattle.decode.specs.Bodies.{unmasked, noLsf, lsfBy, lsfFrom, lsfReadOf, noStream, streamPart, streamBy, streamReadOf, noPacket, packetBy, packetFrom, packetReadOf}
-use Rattle.laws.proofs.Bytes.{bytes-take}
-use Rattle.decode.proofs.Masks.{length-unmasked, unmasked-bytes}
-use Rattle.decode.proofs.ByLength.{lsf-long, stream-long, packet-long, first-refused, second-refused, third-refused, fourth-refused, all-read}
+use Rattle.decode.proofs.ByLength.{first-refused, second-refused, third-refused, fourth-refused, all-read}
 use Rattle.decode.proofs.LichBack.{word-lt}
 
 module _ (s : List ℕ) where
-  -- the four values whose codewords are within three flips of the words
-  pub record Words (v : ℕ) : Type 0 where
-    pub value : ℕ → ℕ
-    pub small : (j : ℕ) → j < 4 → value j < 4096
-    pub close : (j : ℕ) → j < 4 → apart (codeword (value j)) (wordAt s j) ≤ 3
-    pub joined : value 0 * 2 ^ 36 + value 1 * 2 ^ 24 + value 2 * 2 ^ 12 + value 3 ≡ v
-
-  -- a word that is within three flips of no codeword
-  pub record Lost : Type 0 where
-    pub place : ℕ
-    pub within : place < 4
-    pub none : (d : ℕ) → d < 4096 → apart (codeword d) (wordAt s place) ≤ 3 → ⊥
-
   module _ (bytes : Bytes s) (long : length s ≡ 12) where
-    lost : (j : ℕ) (why : Refusal) → j < 4 → golayReadOf (wordAt s j) ≡ golay.Refused why → Lost
+    lost : (j : ℕ) (why : Refusal) → j < 4 → golayReadOf (wordAt s j) ≡ golay.Refused why → Lost s
     lost j why h e =
         record {
           place = j;
@@ -61,7 +32,7 @@ module _ (s : List ℕ) where
         }
 
     words : (x y z w : ℕ) → golayReadOf (wordAt s 0) ≡ golay.Data x → golayReadOf (wordAt s 1) ≡ golay.Data y → golayReadOf (wordAt s 2) ≡ golay.Data z
-        → golayReadOf (wordAt s 3) ≡ golay.Data w → Words (x * 2 ^ 36 + y * 2 ^ 24 + z * 2 ^ 12 + w)
+        → golayReadOf (wordAt s 3) ≡ golay.Data w → Words s (x * 2 ^ 36 + y * 2 ^ 24 + z * 2 ^ 12 + w)
     words x y z w ex ey ez ew =
         record {
           value = at;
@@ -84,7 +55,7 @@ module _ (s : List ℕ) where
         is (suc (suc (suc (suc j)))) h = absurd (omega arith)
 
     -- twelve bytes: the four words are read, or one of them is lost
-    pub read-or-lost : (P : LichRead → Type 0) → ((v : ℕ) → Words v → P (lichFrom v)) → (Lost → P (lichRefused BadGolay)) → P (lichReadOf s)
+    pub read-or-lost : (P : LichRead → Type 0) → ((v : ℕ) → Words s v → P (lichFrom v)) → (Lost s → P (lichRefused BadGolay)) → P (lichReadOf s)
     read-or-lost P good bad = first (golayReadOf (wordAt s 0)) refl
       where
         fourth : (x y z : ℕ) → golayReadOf (wordAt s 0) ≡ golay.Data x → golayReadOf (wordAt s 1) ≡ golay.Data y → golayReadOf (wordAt s 2) ≡ golay.Data z
@@ -105,7 +76,7 @@ module _ (s : List ℕ) where
         first (golay.Refused why) e = subst P (sym (first-refused s long why e)) (bad (lost 0 why (omega arith) e))
 
     -- four words that are near are answered
-    pub lich-read : (v : ℕ) → Words v → lichReadOf s ≡ lichFrom v
+    pub lich-read : (v : ℕ) → Words s v → lichReadOf s ≡ lichFrom v
     lich-read v a =
         let is : (j : ℕ) → j < 4 → golayReadOf (wordAt s j) ≡ golay.Data (a .value j) =
         λ j h. three-flips (wordAt s j) (a .value j) (word-lt s j long bytes h) (a .small j h) (a .close j h) in
@@ -113,10 +84,40 @@ module _ (s : List ℕ) where
         ∙ ap lichFrom (a .joined)
 
     -- and 4 where one is not
-    pub lich-lost : Lost → lichReadOf s ≡ lichRefused BadGolay
+    pub lich-lost : Lost s → lichReadOf s ≡ lichRefused BadGolay
     lich-lost a =
         read-or-lost (λ r. r ≡ lichRefused BadGolay) (λ v g. absurd (a .none (g .value (a .place)) (g .small (a .place) (a .within)) (g .close (a .place) (a .within))))
         (λ b. refl)
 
-    pub lich-lost-only : numberOfCounted (lichReadOf s .answer) ≡ 4 → Lost
-    lich-lost-only = read-or-lost (λ r. numberOfCounted (r .answer) ≡ 4 → Lost) (λ v g e. absurd (omega arith)) (λ b e. b)
+    pub lich-lost-only : numberOfCounted (lichReadOf s .answer) ≡ 4 → Lost s
+    lich-lost-only = read-or-lost (λ r. numberOfCounted (r .answer) ≡ 4 → Lost s) (λ v g e. absurd (omega arith)) (λ b e. b)
+
+module _ (s : List ℕ) (bytes : Bytes s) where
+  lich-short : (length s ≡ 12 → ⊥) → lichReadOf s ≡ lichRefused WrongLength
+  unfolding lichReadOf
+  lich-short n = simp (ne-eqb (length s) 12 n)
+
+  lich-cases : (P : LichRead → Type 0) → ((length s ≡ 12 → ⊥) → P (lichRefused WrongLength)) → (length s ≡ 12 → (v : ℕ) → Words s v → P (lichFrom v))
+      → (length s ≡ 12 → Lost s → P (lichRefused BadGolay)) → P (lichReadOf s)
+  lich-cases P short near lost = elim (ℕ-discrete (length s) 12) [
+    | yes l ↦ read-or-lost s bytes l P (near l) (lost l)
+    | no n ↦ rw (lich-short n) (short n)
+  ]
+
+  pub lich-when : LichWhen s
+  lich-when =
+      record {
+        answered =
+            lich-cases (λ r. numberOfCounted (r .answer) ≡ 0 → (v : ℕ) × (length s ≡ 12) × Words s v × (r ≡ lichFrom v)) (λ n e. absurd (omega arith))
+            (λ l v w e. (v, l, w, refl)) (λ l b e. absurd (omega arith));
+        near = λ v l w. lich-read s bytes l v w;
+        refused =
+            lich-cases (λ r. numberOfCounted (r .answer) ≡ 4 → (length s ≡ 12) × Lost s) (λ n e. absurd (omega arith)) (λ l v w e. absurd (omega arith))
+            (λ l b e. (l, b));
+        lost = λ l b. lich-lost s bytes l b;
+        wrong = lich-cases (λ r. numberOfCounted (r .answer) ≡ 1 → length s ≡ 12 → ⊥) (λ n e. n) (λ l v w e. absurd (omega arith)) (λ l b e. absurd (omega arith));
+        short = lich-short;
+        only =
+            lich-cases (λ r. OneOf (numberOfCounted (r .answer)) (0 ∷ 1 ∷ 4 ∷ [])) (λ n. inr (inl refl)) (λ l v w. inl refl)
+            (λ l b. inr (inr (inl refl)));
+      }

@@ -33,7 +33,7 @@ use Rattle.decode.specs.declared.LichRead.{LichRead}
 use Rattle.decode.specs.declared.StreamRead.{StreamRead}
 use Rattle.decode.specs.declared.PacketRead.{PacketRead}
 use Rattle.decode.specs.Lich.{lichReadOf}
-use Rattle.decode.specs.Bodies.{unmasked, lsfFrom, lsfReadOf, streamFrom, streamBy, streamReadOf, counterFrom, packetFrom, packetReadOf}
+use Rattle.decode.specs.Bodies.{unmasked, lsfFrom, lsfReadOf, streamFrom, streamBy, streamReadOf, counterFrom, packetFrom, payloadBack, packetReadOf}
 use Rattle.decode.specs.Symbols.{lsfParsedOf, streamParsedOf, packetParsedOf}
 use Rattle.laws.proofs.Bytes.{bytes-in-bytes, bytes-append, bytes-zeros, bytes-one, bytes-take}
 use Rattle.decode.proofs.Masks.{length-masked, masked-bytes, unmasked-masked}
@@ -188,27 +188,22 @@ module _ (index : ℕ) (part : List ℕ) (n : ℕ) (end : Bool) (s : List ℕ) (
 
 -- ---- packet
 
--- what is read back of a payload: a final frame's first bytes, and zeros after
-abbrev pub kept : PacketFrameCounter → List ℕ → List ℕ
-kept (Frame index) s = s
-kept (FinalFrame size) s = take size s ++ replicate (25 - size) 0
-
 -- the last byte
 abbrev tag : PacketFrameCounter → ℕ
 tag (Frame index) = index * 4
 tag (FinalFrame size) = 128 + size * 4
 
-fields-are : (c : PacketFrameCounter) (s : List ℕ) → packetFields c s ≡ kept c s ++ (tag c ∷ [])
+fields-are : (c : PacketFrameCounter) (s : List ℕ) → packetFields c s ≡ payloadBack c s ++ (tag c ∷ [])
 fields-are (Frame index) s = refl
 fields-are (FinalFrame size) s = refl
 
-length-kept : (c : PacketFrameCounter) (s : List ℕ) → countable c ≡ true → length s ≡ 25 → length (kept c s) ≡ 25
+length-kept : (c : PacketFrameCounter) (s : List ℕ) → countable c ≡ true → length s ≡ 25 → length (payloadBack c s) ≡ 25
 length-kept (Frame index) s h long = long
 length-kept (FinalFrame size) s h long =
     let b : size ≤ 25 = leb-true size 25 h in
     length-append (take size s) (replicate (25 - size) 0) ∙ omega (arith, length-take-le size s (omega arith), length-replicate {A = ℕ} (25 - size) 0)
 
-kept-bytes : (c : PacketFrameCounter) (s : List ℕ) → Bytes s → Bytes (kept c s)
+kept-bytes : (c : PacketFrameCounter) (s : List ℕ) → Bytes s → Bytes (payloadBack c s)
 kept-bytes (Frame index) s h = h
 kept-bytes (FinalFrame size) s h = bytes-append (take size s) (replicate (25 - size) 0) (bytes-take size s h) (bytes-zeros (25 - size))
 
@@ -244,11 +239,11 @@ last-zero p x long e i h = elim (decLt i 208) [
 
 module _ (counter : PacketFrameCounter) (s : List ℕ) (in-range : countable counter ≡ true) (long : length s ≡ 25) (bytes : Bytes s) where
   plain-packet : List ℕ
-  plain-packet = kept counter s ++ (tag counter ∷ [])
+  plain-packet = payloadBack counter s ++ (tag counter ∷ [])
 
   length-packet : length plain-packet ≡ 26
   unfolding plain-packet
-  length-packet = length-append (kept counter s) (tag counter ∷ []) ∙ ap (λ (m : ℕ). m + 1) (length-kept counter s in-range long)
+  length-packet = length-append (payloadBack counter s) (tag counter ∷ []) ∙ ap (λ (m : ℕ). m + 1) (length-kept counter s in-range long)
 
   coded-packet : List ℕ
   coded-packet = encodedOf Packet plain-packet .bytes
@@ -262,29 +257,29 @@ module _ (counter : PacketFrameCounter) (s : List ℕ) (in-range : countable cou
   decoded-packet =
       ap (decodedOf Packet) (sym (take-all 46 coded-packet (omega (arith, length-encoded Packet plain-packet length-packet))))
       ∙ same-bytes Packet plain-packet length-packet
-      (bytes-append (kept counter s) (tag counter ∷ []) (kept-bytes counter s bytes) (bytes-one (tag counter) (tag-is counter in-range .0)))
-      (last-zero (kept counter s) (tag counter) (length-kept counter s in-range long) (tag-is counter in-range .1))
+      (bytes-append (payloadBack counter s) (tag counter ∷ []) (kept-bytes counter s bytes) (bytes-one (tag counter) (tag-is counter in-range .0)))
+      (last-zero (payloadBack counter s) (tag counter) (length-kept counter s in-range long) (tag-is counter in-range .1))
 
-  fields-read : packetFrom (decoded (plain-packet ++ replicate 4 0)) ≡ record { answer = Done; frame = record { payload = kept counter s; counter = counter } }
+  fields-read : packetFrom (decoded (plain-packet ++ replicate 4 0)) ≡ record { answer = Done; frame = record { payload = payloadBack counter s; counter = counter } }
   unfolding plain-packet
   fields-read =
       let n = length-kept counter s in-range long in
       ap₂ {C = PacketRead} (λ (p : List ℕ) (c : PacketFrameCounter). record { answer = Done; frame = record { payload = p; counter = c } })
-      (take-append-le 25 plain-packet (replicate 4 0) (omega (arith, length-packet)) ∙ take-at (kept counter s) (tag counter ∷ []) 25 n)
-      (ap counterFrom (padded-at 0 plain-packet 4 25 ∙ getD-at (kept counter s) (tag counter) [] 0 25 n) ∙ tag-is counter in-range .2)
+      (take-append-le 25 plain-packet (replicate 4 0) (omega (arith, length-packet)) ∙ take-at (payloadBack counter s) (tag counter ∷ []) 25 n)
+      (ap counterFrom (padded-at 0 plain-packet 4 25 ∙ getD-at (payloadBack counter s) (tag counter) [] 0 25 n) ∙ tag-is counter in-range .2)
 
-  read-packet : packetReadOf (masked coded-packet) ≡ record { answer = Done; frame = record { payload = kept counter s; counter = counter } }
+  read-packet : packetReadOf (masked coded-packet) ≡ record { answer = Done; frame = record { payload = payloadBack counter s; counter = counter } }
   unfolding coded-packet
   read-packet =
       packet-long (masked coded-packet) (length-masked coded-packet)
       ∙ ap (λ (c : List ℕ). packetFrom (decodedOf Packet c)) (unmasked-masked coded-packet (encoded-bytes Packet plain-packet length-packet) (length-encoded Packet plain-packet length-packet))
       ∙ ap packetFrom decoded-packet ∙ fields-read
 
-  pub packet-back : packetReadOf (packetBodyOf counter s .bytes) ≡ record { answer = Done; frame = record { payload = kept counter s; counter = counter } }
+  pub packet-back : packetReadOf (packetBodyOf counter s .bytes) ≡ record { answer = Done; frame = record { payload = payloadBack counter s; counter = counter } }
   packet-back = ap (λ (b : Body). packetReadOf (b .bytes)) packet-body ∙ read-packet
 
   pub packet-symbols-back : packetParsedOf (packetSymbolsOf (record { payload = s; counter = counter }) .symbols)
-      ≡ record { answer = Done; frame = record { payload = kept counter s; counter = counter } }
+      ≡ record { answer = Done; frame = record { payload = payloadBack counter s; counter = counter } }
   unfolding packetParsedOf packetSymbolsOf
   packet-symbols-back =
       ap (λ (b : Body). packetParsedOf (symbolsFrom Packet b .symbols)) packet-body

@@ -16,9 +16,8 @@ use Rattle.bits.specs.Bits.{bitsOf, bytesOf}
 use Rattle.bits.proofs.Back.{bytes-bits, bytes-alike, drop-bits}
 use Rattle.fec.specs.declared.Kind.{Kind}
 use Rattle.fec.specs.declared.Kind.the-variants.{Header, Stream, Packet}
-use Rattle.encode.specs.Bodies.{written}
 use Rattle.encode.specs.Symbols.{third, symbolOf, symbolsOf, frameOf, syncOf, bodySymbolsOf}
-use Rattle.decode.specs.Symbols.{edge, pairOf, pairsOf, bodyFrom, bodyReadOf}
+use Rattle.decode.specs.Symbols.{bodyRead, edge, pairOf, pairsOf, bodyFrom, bodyReadOf}
 use Rattle.decode.proofs.Pairs.{pair-at}
 
 -- the exact round trip of two bits through an f32
@@ -96,8 +95,8 @@ sync-long Stream = refl
 sync-long Packet = refl
 
 -- 46 bytes written as symbols, of any kind, read as those bytes
-pub body-back : (kind : Kind) (body : List ℕ) → length body ≡ 46 → Bytes body → bodyReadOf (bodySymbolsOf kind body .symbols) ≡ written body
+pub body-back : (kind : Kind) (body : List ℕ) → length body ≡ 46 → Bytes body → bodyReadOf (bodySymbolsOf kind body .symbols) ≡ bodyRead body
 unfolding bodySymbolsOf bodyReadOf
 body-back kind body long bytes =
     simp (eq-eqb (length body) 46 long, eq-eqb (length (frameOf (syncOf kind) body)) 192 (length-frame (syncOf kind) body))
-    (ap written (symbols-back (syncOf kind) body long bytes (sync-long kind)))
+    (ap bodyRead (symbols-back (syncOf kind) body long bytes (sync-long kind)))

@@ -1,7 +1,7 @@
 -- From a body of 46 bytes to fields. Assumes nothing.
 use mathlib.Core.Bool.{false, cond}
-use mathlib.Core.List.{List}
-use Prim.Native.Nat.{ℕ, _/_, _%_}
+use mathlib.Core.List.{List, _++_}
+use Prim.Native.Nat.{ℕ, _-_, _/_, _%_}
 use lib.Dec.{eqb, leb}
 use lib.ListN.{length, getD, take, drop, replicate}
 use Rattle.laws.specs.Value.{valueOf}
@@ -25,7 +25,7 @@ use Rattle.decode.specs.declared.StreamRead.{StreamRead}
 use Rattle.decode.specs.declared.PacketRead.{PacketRead}
 use Rattle.decode.specs.Lich.{lichReadOf}
 
--- reading undoes the two in reverse order: the body is xored, then interleaved again, which undoes it
+-- reading undoes both in reverse order: the body is xored, then its bits are interleaved again, which undoes it
 unfoldable pub unmasked : List ℕ → List ℕ
 unmasked b = bytesOf 46 (interleaved (bitsOf (xored b)))
 
@@ -101,6 +101,11 @@ packetBy (Refused why) b = noPacket why
 
 abbrev pub packetFrom : Decoded → PacketRead
 packetFrom r = packetBy (r .answer) (r .bytes)
+
+-- what the payload of a frame that was written reads back as: zeros past a final length
+abbrev pub payloadBack : PacketFrameCounter → List ℕ → List ℕ
+payloadBack (Frame index) s = s
+payloadBack (FinalFrame size) s = take size s ++ replicate (25 - size) 0
 
 -- 1 for other than 46 bytes
 unfoldable pub packetReadOf : List ℕ → PacketRead

@@ -5,11 +5,12 @@ use Prim.Native.Nat.{ℕ}
 use lib.Dec.{eqb}
 use lib.IntN.{pos}
 use lib.Ieee.{Float, fin, binary32, neg, lt, round}
-use lib.ListN.{length, drop}
+use lib.ListN.{length, drop, replicate}
+use Rattle.refusal.specs.declared.Refusal.{Refusal}
 use Rattle.refusal.specs.declared.Refusal.the-variants.{WrongLength}
+use Rattle.refusal.specs.declared.Verdict.the-variants.{Done, Refused}
 use Rattle.bits.specs.Bits.{bytesOf}
 use Rattle.encode.specs.declared.Body.{Body}
-use Rattle.encode.specs.Bodies.{written, unwritten}
 use Rattle.decode.specs.declared.LsfRead.{LsfRead}
 use Rattle.decode.specs.declared.StreamRead.{StreamRead}
 use Rattle.decode.specs.declared.PacketRead.{PacketRead}
@@ -38,13 +39,20 @@ pairsOf (x ∷ xs) = pairOf x ++ pairsOf xs
 unfoldable pub bodyFrom : List Float → List ℕ
 bodyFrom xs = bytesOf 46 (pairsOf (drop 8 xs))
 
+-- bytes that were read, and none
+abbrev pub bodyRead : List ℕ → Body
+bodyRead b = record { answer = Done; bytes = b }
+
+abbrev pub noBody : Refusal → Body
+noBody why = record { answer = Refused why; bytes = replicate 46 0 }
+
 -- 1 for other than 192 symbols
 unfoldable pub bodyReadOf : List Float → Body
-bodyReadOf xs = cond (eqb (length xs) 192) (written (bodyFrom xs)) (unwritten WrongLength)
+bodyReadOf xs = cond (eqb (length xs) 192) (bodyRead (bodyFrom xs)) (noBody WrongLength)
 
 -- what plain frame reading starts with: the body's bytes un-xored and brought back to coded order
 unfoldable pub initialOf : List Float → Body
-initialOf xs = cond (eqb (length xs) 192) (written (unmasked (bodyFrom xs))) (unwritten WrongLength)
+initialOf xs = cond (eqb (length xs) 192) (bodyRead (unmasked (bodyFrom xs))) (noBody WrongLength)
 
 -- whole frames
 unfoldable pub lsfParsedOf : List Float → LsfRead

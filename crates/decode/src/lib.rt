@@ -6,10 +6,9 @@ ghost use lib.ListN.{length, getD, drop};
 ghost use Rattle.refusal.specs.declared.Verdict.the-variants.{Done};
 ghost use Rattle.bits.specs.Bits.{bit, byteOf};
 ghost use Rattle.golay.specs.Golay.{decodedOf as golayReadOf};
-ghost use Rattle.encode.specs.Bodies.{unwritten};
 ghost use Rattle.decode.specs.Lich.{lichRefused, lichFrom, wordAt, lichReadOf};
 ghost use Rattle.decode.specs.Bodies.{unmasked, noLsf, lsfReadOf, noStream, streamFrom, streamReadOf, noPacket, counterFrom, packetBy, packetReadOf};
-ghost use Rattle.decode.specs.Symbols.{pairOf, pairsOf, bodyFrom, bodyReadOf, initialOf, lsfParsedOf, streamParsedOf, packetParsedOf};
+ghost use Rattle.decode.specs.Symbols.{pairOf, pairsOf, bodyFrom, noBody, bodyReadOf, initialOf, lsfParsedOf, streamParsedOf, packetParsedOf};
 use encode::Body;
 use fec::Kind;
 use golay::Reading;
@@ -330,7 +329,7 @@ fn body_from(frame: &[f32]) -> [u8; 46]
 }
 
 fn no_body(why: Refusal) -> Body
-    ensures { λ r. ⌜ r ≡ unwritten why ⌝ }
+    ensures { λ r. ⌜ r ≡ noBody why ⌝ }
 {
     Body {
         answer: Verdict::Refused(why),

@@ -23,13 +23,15 @@ use Rattle.automaton.specs.Seen.{Seen, head, end, unread, Sound}
 use Rattle.automaton.specs.Step as step
 use Rattle.automaton.specs.Step.{State, idle, inPacket, gathering, Answer, answer, kept}
 use Rattle.automaton.specs.Runs.{Slots, _▸_, AllSound, state, memory, handed, Said, said}
-use Rattle.automaton.proofs.Bounds.{Bounded, bounded, memory-long}
+use Rattle.automaton.specs.Demand3.{Bounded}
+use Rattle.automaton.proofs.Bounds.{bounded, memory-long}
 use Rattle.receiver.specs.declared.Receiver.{Receiver}
 use Rattle.receiver.specs.declared.Received.{Received}
 use Rattle.receiver.specs.declared.Answer.the-variants as Answers
 use Rattle.receiver.specs.See.{headerBy, streamBy, packetBy, seenBy, see}
 use Rattle.receiver.specs.Receiver.{stateOf, within, phaseFor, receiverFor, answerFor, headerFor, streamFor, noHeader, noStream, unchanged, taken, receivedOf, memoryOf}
 use Rattle.receiver.specs.Runs.{Fed, start, _▹_, Held, fed, after, handedOut, hearing, Heard, heard, heardBy, seenOf}
+use Rattle.demands.specs.Slots.{holding}
 
 -- ---- every reading is sound
 
@@ -118,10 +120,6 @@ handed-is (step.refused why) m = refl
 -- what is heard at a slot of another length than 48
 abbrev pub noSlot : Heard
 noSlot = record { answer = Answers.Refused WrongLength; header = noHeader; stream = noStream; bytes = [] }
-
--- what a receiver holds that has come to a state of the automaton
-abbrev pub holding : State → List ℕ → Held
-holding st m = record { receiver = receiverFor st; memory = m }
 
 module _ (m : List ℕ) (room : length m ≡ 825) where
   pub after-is : (past : Fed) → after m past ≡ holding (state (seenOf past)) (memory m (seenOf past))

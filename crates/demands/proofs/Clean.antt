@@ -1,6 +1,6 @@
--- Slots exactly as our writers give them, and what they say. Assumes nothing.
+-- What clean slots say. Assumes nothing.
 use mathlib.Core.Path.{_≡_, ap, _∙_}
-use mathlib.Core.List.{List, _++_}
+use mathlib.Core.List.{List}
 use Prim.Native.Nat.{ℕ, suc}
 use lib.ListN.{length}
 use borrow.Author.Tests.{eq-eqb}
@@ -10,23 +10,14 @@ use Rattle.crc.specs.Crc.{crc}
 use Rattle.protocol.specs.declared.StreamFrame.{StreamFrame}
 use Rattle.protocol.specs.declared.PacketFrame.{PacketFrame}
 use Rattle.encode.specs.Bodies.{lsfBodyOf}
-use Rattle.fec.specs.declared.Kind.the-variants as kind
-use Rattle.encode.specs.Symbols.{syncOf}
 use Rattle.decode.specs.declared.StreamRead.{StreamRead}
 use Rattle.decode.specs.declared.PacketRead.{PacketRead}
 use Rattle.decode.proofs.When.{lsf-when, stream-when, packet-when}
 use Rattle.automaton.specs.Seen.{head}
-use Rattle.receiver.specs.See.{headerSeen, streamFields, streamSeen, counted, packetSeen, see}
-use Rattle.demands.proofs.Demand2.{Header, Stream, Packet, streamBody, packetBody, trimmed, header-read, stream-read, packet-read}
-
-abbrev pub headerSlot : List ℕ → List ℕ
-headerSlot h = syncOf kind.Header ++ lsfBodyOf h .bytes
-
-abbrev pub streamSlot : StreamFrame → List ℕ
-streamSlot f = syncOf kind.Stream ++ streamBody f
-
-abbrev pub packetSlot : PacketFrame → List ℕ
-packetSlot f = syncOf kind.Packet ++ packetBody f
+use Rattle.receiver.specs.See.{headerSeen, seenStream, streamSeen, counted, packetSeen, see}
+use Rattle.demands.specs.Frames.{Header, Stream, Packet, streamBody, packetBody, trimmed}
+use Rattle.demands.specs.Slots.{headerSlot, streamSlot, packetSlot}
+use Rattle.demands.proofs.Demand2.{header-read, stream-read, packet-read}
 
 -- a body that reads has 46 bytes, so its slot has 48
 module _ (h : List ℕ) (o : Header (record { bytes = h })) (good : crc h ≡ 0) where
@@ -43,7 +34,7 @@ module _ (f : StreamFrame) (o : Stream f) where
       let read = stream-when (streamBody f) .answered (ap (λ (r : StreamRead). saidOf (r .answer)) (stream-read f o)) in
       ap (λ (n : ℕ). suc (suc n)) (read .2)
 
-  pub stream-seen : see (streamSlot f) ≡ streamFields f
+  pub stream-seen : see (streamSlot f) ≡ seenStream f
   unfolding see valueOf
   stream-seen = ap streamSeen (stream-read f o)
 

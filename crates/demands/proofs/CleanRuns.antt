@@ -2,7 +2,7 @@
 use mathlib.Core.Path.{_≡_, refl, sym, ap, ap₂, _∙_}
 use mathlib.Core.Bool.{false}
 use mathlib.Core.List.{List, [], _∷_, _++_, append-assoc}
-use Prim.Native.Nat.{ℕ, zero, suc, _+_, _-_, _*_, _/_, _%_, _≤_, _<_}
+use Prim.Native.Nat.{ℕ, zero, suc, _+_, _-_, _*_, _%_, _≤_, _<_}
 use native.Mathlib.Omega.{arith}
 use lib.ListN.{length, take, drop, replicate, length-append, length-drop, length-replicate, take-append-drop}
 use lib.Seq.{length-take-le, take-at, drop-drop}
@@ -10,9 +10,6 @@ use borrow.Author.Tests.{eq-eqb, le-leb}
 use Rattle.laws.specs.Value.{Bytes}
 use Rattle.laws.proofs.Bytes.{bytes-append, bytes-take, bytes-drop, bytes-zeros}
 use Rattle.crc.specs.Crc.{crc}
-use Rattle.protocol.specs.declared.StreamFrame.{StreamFrame}
-use Rattle.protocol.specs.declared.PacketFrame.{PacketFrame}
-use Rattle.protocol.specs.declared.PacketFrameCounter.the-variants.{Frame, FinalFrame}
 use Rattle.automaton.specs.Seen.{Fields, Seen, head, isStream}
 use Rattle.automaton.specs.Runs as runs
 use Rattle.automaton.specs.Runs.{Slots, _▸_, _▸▸_, said, Packet, part}
@@ -22,51 +19,11 @@ use Rattle.receiver.specs.declared.Answer.the-variants as Answers
 use Rattle.receiver.specs.See.{see}
 use Rattle.receiver.specs.Receiver.{noHeader, noStream, answerFor, headerFor}
 use Rattle.receiver.specs.Runs.{Fed, _▹_, _▹▹_, Heard, heard, seenOf}
-use Rattle.demands.proofs.Demand2.{Header, Stream, Packet as PacketGood, trimmed}
+use Rattle.demands.specs.Frames.{Header, Stream, Packet as PacketGood, trimmed}
+use Rattle.demands.specs.Slots.{headerSlot, streamSlot, packetSlot, sentFrame, sentSlots, InRange, fulls, frameAt, rest, lastFrame, frameSlots}
 use Rattle.demands.proofs.AsSeen.{sound, all-sound, heardFor, heard-is}
-use Rattle.demands.proofs.Clean.{headerSlot, streamSlot, packetSlot, header-slot, header-seen, stream-slot, stream-seen, packet-slot, packet-seen}
+use Rattle.demands.proofs.Clean.{header-slot, header-seen, stream-slot, stream-seen, packet-slot, packet-seen}
 use Rattle.demands.proofs.Sees.{seesOf, seen-more}
-
--- a sender's i-th frame: it counts 0 to 5 round and round with the parts of one header h
-abbrev pub sentFrame : List ℕ → (ℕ → Fields) → ℕ → StreamFrame
-sentFrame h f i =
-    record {
-      «lich_idx» = i % 6;
-      «lich_part» = part h (i % 6);
-      «frame_number» = f i .number;
-      «end_of_stream» = f i .closing;
-      «stream_data» = f i .content;
-    }
-
--- n of its clean slots in a row, from the i-th on
-abbrev pub sentSlots : List ℕ → (ℕ → Fields) → ℕ → ℕ → List (List ℕ)
-sentSlots h f i zero = []
-sentSlots h f i (suc n) = streamSlot (sentFrame h f i) ∷ sentSlots h f (suc i) n
-
--- fields in range
-pub record InRange (f : Fields) : Type 0 where
-  pub number : f .number ≤ 32767
-  pub long : length (f .content) ≡ 16
-  pub bytes : Bytes (f .content)
-
--- a packet of bytes p in frames: so many that are not final
-abbrev pub fulls : List ℕ → ℕ
-fulls p = (length p - 1) / 25
-
-abbrev pub frameAt : List ℕ → ℕ → PacketFrame
-frameAt p i = record { payload = take 25 (drop (25 * i) p); counter = Frame i }
-
--- and the final one, with what is left
-abbrev pub rest : List ℕ → List ℕ
-rest p = drop (25 * fulls p) p
-
-abbrev pub lastFrame : List ℕ → PacketFrame
-lastFrame p = record { payload = rest p ++ replicate (25 - length (rest p)) 0; counter = FinalFrame (length (rest p)) }
-
--- n clean packet slots from frame i on
-abbrev pub frameSlots : List ℕ → ℕ → ℕ → List (List ℕ)
-frameSlots p i zero = []
-frameSlots p i (suc n) = packetSlot (frameAt p i) ∷ frameSlots p (suc i) n
 
 module _ (h : List ℕ) (f : ℕ → Fields) (o : Header (record { bytes = h })) (ranges : (k : ℕ) → InRange (f k)) where
   in-range : (i : ℕ) → Stream (sentFrame h f i)

@@ -1,8 +1,7 @@
--- What a slot is answered with at any point of a run, and what it leaves: the lines of document 01's table and of its receiver section, one by
--- one. Assumes nothing.
+-- What a slot is answered with at any point of a run, and what it leaves, as the record says. Assumes nothing.
 use mathlib.Core.Path.{_≡_, refl, sym, ap, ap₂, _∙_, subst}
 use mathlib.Core.Logic.{_↔_}
-use mathlib.Core.Bool.{Bool, true, false, cond, _&&_}
+use mathlib.Core.Bool.{Bool, true, false, cond}
 use mathlib.Core.List.{List, []}
 use Prim.Native.Nat.{ℕ, _+_, _*_, _%_, _≤_, _<_}
 use native.Mathlib.Omega.{arith}
@@ -22,71 +21,32 @@ use Rattle.protocol.specs.declared.PacketFrameCounter.{PacketFrameCounter}
 use Rattle.protocol.specs.declared.PacketFrameCounter.the-variants.{Frame, FinalFrame}
 use Rattle.protocol.specs.Numbers.{modeOf}
 use Rattle.protocol.specs.Fields.{typeBytes, modeBits, field}
-use Rattle.protocol.proofs.Whole.{Thirty, field-bytes}
+use Rattle.protocol.proofs.Whole.{field-bytes}
 use Rattle.protocol.proofs.TypeBits.{type-read}
 use Rattle.decode.proofs.Words.{value-two}
 use Rattle.decode.specs.declared.LsfRead.{LsfRead}
-use Rattle.decode.specs.declared.StreamRead.{StreamRead}
-use Rattle.decode.specs.declared.PacketRead.{PacketRead}
 use Rattle.decode.specs.Bodies.{lsfReadOf, streamReadOf, packetReadOf}
 use Rattle.automaton.specs.Seen.{Seen, head, piece, end, unread, streams, isStream}
 use Rattle.automaton.specs.Step as step
 use Rattle.automaton.specs.Runs.{Slots, state, memory, handed, said}
 use Rattle.automaton.proofs.Cases.{never, by-test}
-use Rattle.automaton.proofs.ByAnswer.{ByAnswer, by-answer}
-use Rattle.automaton.proofs.Opened.{Pieces, Opened, opened}
+use Rattle.automaton.specs.Demand3.{ByAnswer}
+use Rattle.automaton.proofs.ByAnswer.{by-answer}
+use Rattle.automaton.specs.Opened.{Pieces, Opened}
+use Rattle.automaton.proofs.Opened.{opened}
 use Rattle.automaton.proofs.Held.{held}
 use Rattle.receiver.specs.declared.Receiver.{Receiver}
 use Rattle.receiver.specs.declared.Late.{Late}
 use Rattle.receiver.specs.declared.Answer.{Answer}
 use Rattle.receiver.specs.declared.Answer.the-variants as Answers
-use Rattle.receiver.specs.See.{headerBy, headerSeen, streamFields, streamBy, streamSeen, packetBy, packetSeen, see}
-use Rattle.receiver.specs.Receiver.{receiverFor, within, noHeader, noStream, fits, lateFor, answerFor, headerFor, streamFor, unchanged, receivedOf, memoryOf}
+use Rattle.receiver.specs.See.{headerBy, headerSeen, seenStream, streamBy, streamSeen, packetBy, packetSeen, see}
+use Rattle.receiver.specs.Receiver.{within, noHeader, noStream, fits, lateFor, answerFor, headerFor, unchanged, receivedOf, memoryOf}
 use Rattle.receiver.specs.Runs.{Fed, _▹_, Held, after, Heard, heard, seenOf}
-use Rattle.demands.proofs.AsSeen.{all-sound, holding, after-is, heardFor, heard-is}
-use Rattle.demands.proofs.Sees.{HeaderSlot, header-says}
-
-pub record EachSlot : Type 0 where
-  -- The receiver's state means the automaton's, and packet memory is the automaton's, after any slots.
-  pub as-seen : (m : List ℕ) (past : Fed) → length m ≡ 825 → after m past ≡ holding (state (seenOf past)) (memory m (seenOf past))
-  -- A header slot that reads with a good CRC is answered with its bytes, and nothing else is answered so.
-  pub header-answered : (m : List ℕ) (past : Fed) (x h : List ℕ) → length m ≡ 825 → HeaderSlot x h
-      → heard m past x ≡ record { answer = Answers.Header; header = h; stream = noStream; bytes = [] }
-  pub header-only : (m : List ℕ) (past : Fed) (x : List ℕ) → length m ≡ 825 → length x ≡ 48 → heard m past x .answer ≡ Answers.Header
-      → HeaderSlot x (heard m past x .header)
-  -- Type bit 0, which says what a header opens, is the lowest bit of byte 13.
-  pub type-bit : (h : List ℕ) → Thirty h → isStream h ≡ eqb (getD h 13 0 % 2) 1
-  -- Frame k is answered as stored exactly when the slots just gone are a packet header and frames 0 to k - 1.
-  pub stored-exactly : (m : List ℕ) (past : Fed) (x : List ℕ) (k : ℕ) → length m ≡ 825 → length x ≡ 48
-      → (heard m past x .answer ≡ Answers.Stored k) ↔ ((b : List ℕ) × (see x ≡ piece k b) × Pieces k (seenOf past))
-  -- A stream slot's fields are always answered.
-  pub stream-answered : (m : List ℕ) (past : Fed) (x : List ℕ) (f : StreamFrame) → length m ≡ 825 → length x ≡ 48 → valueOf (take 2 x) ≡ 0xFF5D
-      → streamReadOf (drop 2 x) ≡ record { answer = Done; frame = f }
-      → (l : Late) × (heard m past x .answer ≡ Answers.Stream l) × (heard m past x .stream ≡ f)
-  -- The end is answered as end, its body unread, and leaves idle and memory alone.
-  pub end-answered : (m : List ℕ) (past : Fed) (x : List ℕ) → length m ≡ 825 → length x ≡ 48 → valueOf (take 2 x) ≡ 0x555D
-      → (heard m past x ≡ record { answer = Answers.Ended; header = noHeader; stream = noStream; bytes = [] })
-      × (after m (past ▹ x) ≡ holding step.idle (after m past .memory))
-  -- A slot that does not read is refused with its number: 7, then 3, then 4 or 5.
-  pub refused-7 : (m : List ℕ) (past : Fed) (x : List ℕ) → length m ≡ 825 → length x ≡ 48 → (valueOf (take 2 x) ≡ 0x55F7 → ⊥)
-      → (valueOf (take 2 x) ≡ 0xFF5D → ⊥) → (valueOf (take 2 x) ≡ 0x75FF → ⊥) → (valueOf (take 2 x) ≡ 0x555D → ⊥)
-      → heard m past x .answer ≡ Answers.Refused UnknownSync
-  pub header-refused : (m : List ℕ) (past : Fed) (x : List ℕ) (why : Refusal) → length m ≡ 825 → length x ≡ 48 → valueOf (take 2 x) ≡ 0x55F7
-      → lsfReadOf (drop 2 x) .answer ≡ Refused why → heard m past x .answer ≡ Answers.Refused why
-  pub refused-5 : (m : List ℕ) (past : Fed) (x : List ℕ) → length m ≡ 825 → length x ≡ 48 → valueOf (take 2 x) ≡ 0x55F7
-      → lsfReadOf (drop 2 x) .answer ≡ Done → (crc (lsfReadOf (drop 2 x) .frame .bytes) ≡ 0 → ⊥) → heard m past x .answer ≡ Answers.Refused BadHeader
-  pub stream-refused : (m : List ℕ) (past : Fed) (x : List ℕ) (why : Refusal) → length m ≡ 825 → length x ≡ 48 → valueOf (take 2 x) ≡ 0xFF5D
-      → streamReadOf (drop 2 x) .answer ≡ Refused why → heard m past x .answer ≡ Answers.Refused why
-  pub packet-refused : (m : List ℕ) (past : Fed) (x : List ℕ) (why : Refusal) → length m ≡ 825 → length x ≡ 48 → valueOf (take 2 x) ≡ 0x75FF
-      → packetReadOf (drop 2 x) .answer ≡ Refused why → heard m past x .answer ≡ Answers.Refused why
-  -- Whatever the refusal of a slot, it carries no data, memory is untouched and the receiver idle.
-  pub refusal-keeps : (m : List ℕ) (past : Fed) (x : List ℕ) (why : Refusal) → length m ≡ 825 → length x ≡ 48 → heard m past x .answer ≡ Answers.Refused why
-      → (heard m past x ≡ record { answer = Answers.Refused why; header = noHeader; stream = noStream; bytes = [] })
-      × (after m (past ▹ x) ≡ holding step.idle (after m past .memory))
-  -- 1 and 12 change no state and no memory, whatever the receiver.
-  pub refused-1 : (r : Receiver) (x m : List ℕ) → fits x m ≡ false → (receivedOf r x m ≡ unchanged WrongLength r) × (memoryOf r x m ≡ m)
-  pub refused-12 : (r : Receiver) (x m : List ℕ) → fits x m ≡ true → within (r .phase) ≡ false
-      → (receivedOf r x m ≡ unchanged BadState r) × (memoryOf r x m ≡ m)
+use Rattle.demands.specs.Frames.{Header}
+use Rattle.demands.specs.Slots.{HeaderSlot, holding}
+use Rattle.demands.specs.EachSlot.{EachSlot}
+use Rattle.demands.proofs.AsSeen.{all-sound, after-is, heardFor, heard-is}
+use Rattle.demands.proofs.Sees.{header-says}
 
 -- ---- what a slot says, by its sync word
 
@@ -159,7 +119,7 @@ header-only-answer (step.fields c p f l) e = never (cc)
 header-only-answer step.ended e = never (cc)
 header-only-answer (step.refused why) e = never (cc)
 
-refused-only : (a : step.Answer) (why : Refusal) → answerFor a ≡ Answers.Refused why → a ≡ step.refused why
+pub refused-only : (a : step.Answer) (why : Refusal) → answerFor a ≡ Answers.Refused why → a ≡ step.refused why
 refused-only (step.header h) why e = never (cc)
 refused-only (step.stored k) why e = never (cc)
 refused-only (step.packet t) why e = never (cc)
@@ -192,12 +152,12 @@ by-bit n h = elim (ℕ-discrete n 0) [
   | no z ↦ let e : n ≡ 1 = omega arith in rw e
 ]
 
-type-bit : (h : List ℕ) → Thirty h → isStream h ≡ eqb (getD h 13 0 % 2) 1
+type-bit : (h : List ℕ) → Header (record { bytes = h }) → isStream h ≡ eqb (getD h 13 0 % 2) 1
 type-bit h o =
     let t = field typeBytes h in
     let left : 2 ≤ length (drop 12 h) = omega (arith, length-drop 12 h, o .long) in
     let v : t ≡ getD h 12 0 * 256 + getD h 13 0 =
-    field-bytes h o 12 2 (omega arith) ∙ value-two (drop 12 h) left ∙ ap₂ (λ (a b : ℕ). a * 256 + b) (getD-drop 12 h 0 0) (getD-drop 12 h 1 0) in
+    field-bytes h (record { long = o .long; bytes = o .bytes }) 12 2 (omega arith) ∙ value-two (drop 12 h) left ∙ ap₂ (λ (a b : ℕ). a * 256 + b) (getD-drop 12 h 0 0) (getD-drop 12 h 1 0) in
     let r : field modeBits h ≡ getD h 13 0 % 2 = type-read 0 1 h (omega arith) t refl ∙ omega arith in
     ap (λ (n : ℕ). streams (modeOf n)) r ∙ by-bit (getD h 13 0 % 2) (omega arith)
 
@@ -241,7 +201,7 @@ module _ (m : List ℕ) (past : Fed) (x : List ℕ) (room : length m ≡ 825) (l
       → (l : Late) × (heard m past x .answer ≡ Answers.Stream l) × (heard m past x .stream ≡ f)
   unfolding step.answer
   stream-answered f e q =
-      let is = at-seen (streamFields f) (stream-says x e ∙ ap streamSeen q) in
+      let is = at-seen (seenStream f) (stream-says x e ∙ ap streamSeen q) in
       (lateFor (step.lateOf (state (seenOf past)) (f .«lich_idx») (f .«lich_part»)), ap (λ (k : Heard). k .answer) is, ap (λ (k : Heard). k .stream) is)
 
   header-only : heard m past x .answer ≡ Answers.Header → HeaderSlot x (heard m past x .header)
@@ -277,11 +237,11 @@ header-answered : (m : List ℕ) (past : Fed) (x h : List ℕ) → length m ≡ 
 unfolding step.answer step.kept
 header-answered m past x h room k = at-seen m past x room (k .long) (head h) (header-says x h k)
 
-refused-1 : (r : Receiver) (x m : List ℕ) → fits x m ≡ false → (receivedOf r x m ≡ unchanged WrongLength r) × (memoryOf r x m ≡ m)
+pub refused-1 : (r : Receiver) (x m : List ℕ) → fits x m ≡ false → (receivedOf r x m ≡ unchanged WrongLength r) × (memoryOf r x m ≡ m)
 unfolding receivedOf memoryOf
 refused-1 r x m e = (rw e, rw e)
 
-refused-12 : (r : Receiver) (x m : List ℕ) → fits x m ≡ true → within (r .phase) ≡ false → (receivedOf r x m ≡ unchanged BadState r) × (memoryOf r x m ≡ m)
+pub refused-12 : (r : Receiver) (x m : List ℕ) → fits x m ≡ true → within (r .phase) ≡ false → (receivedOf r x m ≡ unchanged BadState r) × (memoryOf r x m ≡ m)
 unfolding receivedOf memoryOf
 refused-12 r x m e w = (rw (e, w), rw (e, w))
 

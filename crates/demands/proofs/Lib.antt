@@ -6,3 +6,4 @@ pub mod Sees
 pub mod CleanRuns
 pub mod Demand3
 pub mod EachSlot
+pub mod Demand1

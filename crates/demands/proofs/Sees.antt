@@ -4,24 +4,16 @@ use mathlib.Core.Bool.{Bool, true, false, cond}
 use mathlib.Core.List.{List, [], _∷_}
 use Prim.Native.Nat.{ℕ}
 use lib.Dec.{eqb}
-use lib.ListN.{length, take, drop}
+use lib.ListN.{length, take}
 use borrow.Author.Tests.{eq-eqb}
 use Rattle.laws.specs.Value.{valueOf}
-use Rattle.refusal.specs.declared.Verdict.the-variants.{Done}
 use Rattle.crc.specs.Crc.{crc}
-use Rattle.decode.specs.Bodies.{lsfReadOf}
 use Rattle.automaton.specs.Seen.{Seen, head}
 use Rattle.automaton.specs.Runs.{Slots, _▸_, _▸▸_, Sounds}
 use Rattle.receiver.specs.See.{headerSeen, see}
-use Rattle.receiver.specs.Runs.{Fed, _▹_, _▹▹_, after, seenOf}
+use Rattle.receiver.specs.Runs.{Fed, _▹_, _▹▹_, seenOf}
+use Rattle.demands.specs.Slots.{HeaderSlot}
 use Rattle.demands.proofs.AsSeen.{sound}
-
--- a header slot that reads with a good CRC
-pub record HeaderSlot (x h : List ℕ) : Type 0 where
-  pub long : length x ≡ 48
-  pub sync : valueOf (take 2 x) ≡ 0x55F7
-  pub reads : lsfReadOf (drop 2 x) ≡ record { answer = Done; frame = record { bytes = h } }
-  pub good : crc h ≡ 0
 
 pub header-says : (x h : List ℕ) → HeaderSlot x h → see x ≡ head h
 unfolding see

@@ -5,3 +5,4 @@ pub mod Fields
 pub mod Whole
 pub mod Pairs
 pub mod Answers
+pub mod Exactly

@@ -18,7 +18,7 @@ use Rattle.protocol.specs.declared.PacketFrameCounter.the-variants.{Frame, Fina
 use Rattle.encode.specs.declared.Body.{Body}
 use Rattle.encode.specs.Lich.{lichBytes}
 
--- 46 coded bytes are interleaved, then xored
+-- 46 coded bytes masked: their bits interleaved, then the bytes xored
 unfoldable pub masked : List ℕ → List ℕ
 masked c = xored (bytesOf 46 (interleaved (bitsOf c)))
 

@@ -7,9 +7,9 @@ use native.Mathlib.Omega.{arith}
 use lib.Dec.{T}
 use lib.ListN.{length, take, drop, getD, length-reverse, length-drop, take-append-drop}
 use lib.Seq.{drop-cons, ext-getD, getD-drop}
-use Rattle.fec.specs.Nearest.{by, comes, ahead}
+use Rattle.fec.specs.Nearest.{leads, comes, ahead}
 
-pub by-same : (one x y rest : Bool) → x ≡ y → T rest → T (by one x y rest)
+pub by-same : (one x y rest : Bool) → x ≡ y → T rest → T (leads one x y rest)
 by-same one true true rest e t = t
 by-same one false false rest e t = t
 by-same one true false rest e t = absurd (true≢false e)

@@ -9,7 +9,7 @@ use lib.ListN.{length, length-reverse}
 use lib.Dec.{T, ltb}
 use borrow.Author.Tests.{ltb-true, ltb-false}
 use Rattle.fec.specs.declared.Sends.{Sends}
-use Rattle.fec.specs.Nearest.{distance, by, comes, Nearest, nearer, best, nearest}
+use Rattle.fec.specs.Nearest.{distance, leads, comes, Nearest, nearer, best, nearest}
 use Rattle.fec.proofs.Order.{by-same, one-order}
 
 each-bit : (P : Bool → Type 0) (one : Bool) → P one → P (not one) → (x : Bool) → P x
@@ -18,7 +18,7 @@ each-bit P true a b false = b
 each-bit P false a b true = b
 each-bit P false a b false = a
 
-by-first : (one rest : Bool) → T (by one one (not one) rest)
+by-first : (one rest : Bool) → T (leads one one (not one) rest)
 by-first true rest = tt
 by-first false rest = tt
 
@@ -34,7 +34,7 @@ module _ (d : List Bool → ℕ) where
 
   -- the best that end in each of two bits, of which `one` comes first
   module _ (k j m : ℕ) (one : Bool) (s u v : List Bool)
-      (order : (x y : Bool) (a b : List Bool) → T (by one x y (comes j a b)) → T (comes k (x ∷ a) (y ∷ b)))
+      (order : (x y : Bool) (a b : List Bool) → T (leads one x y (comes j a b)) → T (comes k (x ∷ a) (y ∷ b)))
       (Bu : Best j m (one ∷ s) u) (Bv : Best j m (not one ∷ s) v) where
     -- what is known of the words that end in each of the two bits, one after the other
     taken : (b : Bool) (w : List Bool) (B : Best j m (b ∷ s) w)

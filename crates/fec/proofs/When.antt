@@ -3,7 +3,7 @@ use mathlib.Core.Path.{_≡_, refl, sym, ap, _∙_}
 use mathlib.Core.Bool.{Bool}
 use mathlib.Core.List.{List}
 use mathlib.Core.Option.{Option, some, none}
-use Prim.Native.Nat.{ℕ, _+_, _≤_, _<_}
+use Prim.Native.Nat.{ℕ}
 use native.Mathlib.Decide.{ℕ-discrete}
 use native.Mathlib.Omega.{arith}
 use lib.ListN.{length, take}
@@ -12,8 +12,9 @@ use Rattle.refusal.specs.declared.Refusal.the-variants.{WrongLength, TooFar}
 use Rattle.bits.specs.Bits.{bitsOf, bytesOf}
 use Rattle.fec.specs.declared.Kind.{Kind}
 use Rattle.fec.specs.declared.Decoded.{Decoded}
-use Rattle.fec.specs.Nearest.{distance, Nearest, readOf}
+use Rattle.fec.specs.Nearest.{readOf}
 use Rattle.fec.specs.Kinds.{bitsIn, codedBytes, limitOf, sendsIn, decoded, notDecoded, found, decodedOf}
+use Rattle.fec.specs.When.{Near, Far}
 use Rattle.fec.proofs.Answers.{answered-when as read-when, refused-when as unread-when}
 use Rattle.fec.proofs.Bodies.{decoded-long, decoded-short}
 
@@ -22,19 +23,6 @@ abbrev said : Decoded → ℕ
 said r = saidOf (r .answer)
 
 module _ (k : Kind) (rx : List ℕ) where
-  -- b are the first n bits of the nearest word, and its distance is within the limit
-  pub record Near (b : List ℕ) : Type 0 where
-    pub long : length rx ≡ codedBytes k
-    pub word : List Bool
-    pub nearest : Nearest (sendsIn k) (bitsIn k) (bitsOf rx) word
-    pub within : distance (sendsIn k) (bitsOf rx) word ≤ limitOf k
-    pub bytes : b ≡ bytesOf 30 (take (bitsIn k) word)
-
-  -- every word is farther than the limit
-  pub record Far : Type 0 where
-    pub long : length rx ≡ codedBytes k
-    pub beyond : (v : List Bool) → length v ≡ bitsIn k + 4 → limitOf k < distance (sendsIn k) (bitsOf rx) v
-
   read : Option (List Bool)
   read = readOf (sendsIn k) (bitsIn k) (limitOf k) (bitsOf rx)
 
@@ -53,10 +41,10 @@ module _ (k : Kind) (rx : List ℕ) where
       by-length (yes l) = rw (decoded-long k rx l) (by-read l (readOf (sendsIn k) (bitsIn k) (limitOf k) (bitsOf rx)) refl)
       by-length (no n) = rw (decoded-short k rx n) (wrong n)
 
-  pub answered-when : (b : List ℕ) → (decodedOf k rx ≡ decoded b → Near b) × (Near b → decodedOf k rx ≡ decoded b)
+  pub answered-when : (b : List ℕ) → (decodedOf k rx ≡ decoded b → Near k rx b) × (Near k rx b → decodedOf k rx ≡ decoded b)
   unfolding read
   answered-when b = (
-    cases (λ o. o ≡ decoded b → Near b) (λ n e. absurd (omega (arith, ap said e)))
+    cases (λ o. o ≡ decoded b → Near k rx b) (λ n e. absurd (omega (arith, ap said e)))
         (λ l d q e.
         let w = read-when (sendsIn k) (bitsIn k) (limitOf k) (bitsOf rx) d .0 q in
         record {
@@ -73,10 +61,10 @@ module _ (k : Kind) (rx : List ℕ) where
         ∙ ap decoded (sym (a .bytes)),
   )
 
-  pub refused-when : (decodedOf k rx ≡ notDecoded TooFar → Far) × (Far → decodedOf k rx ≡ notDecoded TooFar)
+  pub refused-when : (decodedOf k rx ≡ notDecoded TooFar → Far k rx) × (Far k rx → decodedOf k rx ≡ notDecoded TooFar)
   unfolding read
   refused-when = (
-    cases (λ o. o ≡ notDecoded TooFar → Far) (λ n e. absurd (omega (arith, ap said e)))
+    cases (λ o. o ≡ notDecoded TooFar → Far k rx) (λ n e. absurd (omega (arith, ap said e)))
         (λ l d q e. absurd (omega (arith, ap said e)))
         (λ l q e. record { long = l; beyond = unread-when (sendsIn k) (bitsIn k) (limitOf k) (bitsOf rx) .0 q }),
     λ f. decoded-long k rx (f .long) ∙ ap found (unread-when (sendsIn k) (bitsIn k) (limitOf k) (bitsOf rx) .1 (f .beyond)),

@@ -1,4 +1,5 @@
 pub mod Code
 pub mod Nearest
 pub mod Kinds
+pub mod When
 pub mod Search

@@ -1,5 +1,5 @@
--- The nearest word, as a statement over all words and as a function. The function ranges over all words and stays shut: what is known of
--- it is that it is the `Nearest` one. Assumes nothing.
+-- The nearest word, as a statement over all words and as a function. The function ranges over all words and is not computed at full length:
+-- what is known of it is that it is the `Nearest` one. Assumes nothing.
 use mathlib.Core.Path.{_≡_}
 use mathlib.Core.Bool.{Bool, true, false, not, cond}
 use mathlib.Core.List.{List, [], _∷_, reverse}
@@ -21,19 +21,19 @@ differ (x ∷ xs) (y ∷ ys) = bit (x ⊕ y) + differ xs ys
 unfoldable pub distance : (ℕ → Sends) → List Bool → List Bool → ℕ
 distance p rx w = differ (code p w) rx
 
--- of two bits that differ the one that is `one` comes first; where they are equal the rest tells
-abbrev pub by : Bool → Bool → Bool → Bool → Bool
-by one true true rest = rest
-by one false false rest = rest
-by one true false rest = one
-by one false true rest = not one
+-- does the bit x lead y? Of two that differ the one that is `first` leads; where they are equal the rest tells
+abbrev pub leads : Bool → Bool → Bool → Bool → Bool
+leads first true true rest = rest
+leads first false false rest = rest
+leads first true false rest = first
+leads first false true rest = not first
 
 -- u comes before v, or is v: in the first k places 0 comes before 1, in all later ones 1 before 0
 unfoldable pub comes : ℕ → List Bool → List Bool → Bool
 comes k [] v = true
 comes k (x ∷ u) [] = false
-comes zero (x ∷ u) (y ∷ v) = by true x y (comes zero u v)
-comes (suc k) (x ∷ u) (y ∷ v) = by false x y (comes k u v)
+comes zero (x ∷ u) (y ∷ v) = leads true x y (comes zero u v)
+comes (suc k) (x ∷ u) (y ∷ v) = leads false x y (comes k u v)
 
 -- w comes before v, or is v, compared from the last bit backwards: in the last five places 0 before 1, in all earlier ones 1 before 0
 abbrev pub ahead : List Bool → List Bool → Bool

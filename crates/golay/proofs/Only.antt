@@ -10,6 +10,7 @@ use Rattle.golay.specs.declared.Reading.the-variants.{Data, Refused}
 use Rattle.golay.specs.declared.Codeword.the-variants as codeword
 use Rattle.golay.specs.declared.Codeword.the-variants.{Word}
 use Rattle.golay.specs.Golay.{golay, apart, nearBelow, decodedOf, encodedOf, numberOfReading, numberOfCodeword}
+use Rattle.golay.specs.When.{Reads}
 use Rattle.golay.proofs.Linear.{golay-lt}
 use Rattle.golay.proofs.Near.{apart-self, near-found, near-none}
 
@@ -39,14 +40,6 @@ three-flips w d h k l = below w h ∙ near-found 4096 w d (lit≤ tt) k l
 -- what is written reads back
 pub reads-back : (d : ℕ) → d < 4096 → decodedOf (golay d) ≡ Data d
 reads-back d h = three-flips (golay d) d (golay-lt d h) h (omega (arith, apart-self (golay d)))
-
-pub record Reads (w : ℕ) : Type 0 where
-  -- data is answered exactly when its codeword is within three flips
-  pub answered : (d : ℕ) → decodedOf w ≡ Data d → (d < 4096) × (apart (golay d) w ≤ 3)
-  pub near : (d : ℕ) → d < 4096 → apart (golay d) w ≤ 3 → decodedOf w ≡ Data d
-  -- and 4 exactly when no codeword is
-  pub refused : decodedOf w ≡ Refused BadGolay → (d : ℕ) → d < 4096 → apart (golay d) w ≤ 3 → ⊥
-  pub none : ((d : ℕ) → d < 4096 → apart (golay d) w ≤ 3 → ⊥) → decodedOf w ≡ Refused BadGolay
 
 pub reads : (w : ℕ) → w < 2 ^ 24 → Reads w
 reads w h =

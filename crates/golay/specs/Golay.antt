@@ -28,7 +28,7 @@ apart a b = onesIn 24 (bitXor a b)
 unfoldable pub isWord : ℕ → Bool
 isWord w = eqb (golay (w / 4096)) w
 
--- the data below n whose codeword is within three flips of w; 4 where there is none
+-- the data below n whose codeword is within three flips of w, the highest where there were more; 4 where there is none
 unfoldable pub nearBelow : ℕ → ℕ → Reading
 nearBelow zero w = reading.Refused BadGolay
 nearBelow (suc n) w = cond (leb (apart (golay n) w) 3) (reading.Data n) (nearBelow n w)

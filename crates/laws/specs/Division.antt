@@ -1,4 +1,4 @@
--- Long division of polynomials over two elements, each a number whose bit k is the factor of x^k. Assumes nothing.
+-- Long division of polynomials over two elements, each a number whose bit k is the coefficient of x^k. Assumes nothing.
 use mathlib.Core.Bool.{cond}
 use Prim.Native.Nat.{ℕ, zero, suc, _+_, _*_, _/_, _^_}
 use lib.Dec.{eqb}

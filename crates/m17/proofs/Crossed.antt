@@ -5,7 +5,8 @@ use Rattle.bits.specs.Bits.{bit}
 use Rattle.receiver.specs.declared.Received.{Received}
 use Rattle.m17.specs.declared.M17Receiver.{M17Receiver}
 use Rattle.m17.specs.declared.M17Received.{M17Received}
-use Rattle.m17.specs.Receiving.{answerCount, answerNumber, answerSaid, nextFor, crossed}
+use Rattle.receiver.specs.Numbers.{answerCount, answerNumber, answerSaid}
+use Rattle.m17.specs.Receiving.{nextFor, crossed}
 
 module _ (s : M17Receiver) (r : Received) where
   abbrev pub made : ℕ → M17Receiver → ℕ → ℕ → ℕ → M17Received

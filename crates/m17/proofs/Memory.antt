@@ -1,13 +1,18 @@
 -- Memory lent for a frame that is read, in each of its cases. Assumes nothing.
-use mathlib.Core.Path.{_≡_, ap, _∙_}
+use mathlib.Core.Path.{_≡_, sym, ap, _∙_}
+use mathlib.Core.Bool.{Bool, not}
 use mathlib.Core.List.{List}
 use Prim.Native.Nat.{ℕ}
+use native.Mathlib.Decide.{ℕ-discrete}
+use native.Mathlib.Omega.{arith}
+use lib.Dec.{ltb}
 use lib.ListN.{length}
-use borrow.Author.Tests.{eq-eqb, ne-eqb}
+use borrow.Author.Tests.{eq-eqb, ne-eqb, lt-ltb}
 use Rattle.refusal.specs.Number.{numberOf}
 use Rattle.refusal.specs.declared.Refusal.{Refusal}
 use Rattle.refusal.specs.declared.Verdict.the-variants.{Done, Refused}
 use Rattle.bits.specs.Bits.{bit}
+use Rattle.bits.specs.Places.{flag}
 use Rattle.fec.specs.declared.Kind.the-variants.{Header, Stream, Packet}
 use Rattle.encode.specs.declared.Body.{Body}
 use Rattle.encode.specs.declared.Symbols.{Symbols}
@@ -17,7 +22,7 @@ use Rattle.decode.specs.declared.Counted.the-variants as counted
 use Rattle.decode.specs.declared.LichRead.{LichRead}
 use Rattle.decode.specs.declared.PacketRead.{PacketRead}
 use Rattle.decode.specs.declared.StreamRead.{StreamRead}
-use Rattle.m17.specs.Frames.{yes, counterFor, finalOf, numberIn, lsfFrame, streamFrame, packetFrame, LichMemory, lichMemory, LichLent, StreamMemory, streamMemory, StreamLent, PacketMemory, packetMemory, PacketLent}
+use Rattle.m17.specs.Frames.{counterFor, finalOf, numberIn, lsfFrame, streamFrame, packetFrame, LichMemory, lichMemory, LichLent, StreamMemory, streamMemory, StreamLent, PacketMemory, packetMemory, PacketLent}
 use Rattle.m17.proofs.Lent.{Lent}
 
 -- a buffer of the right length has the bytes of what is done
@@ -81,16 +86,23 @@ module _ (x : PacketRead) (m : PacketMemory) where
         let q = copied 25 (m .payload) (x .frame .payload) r payload h l in
         (simp (e, p) (q .0), simp (e, p, f, g, q .1))
 
+-- the code's test of a number that is yes or no
+pub not-zero : (n : ℕ) → ltb 0 n ≡ flag n
+not-zero n = elim (ℕ-discrete n 0) [
+  | yes e ↦ rw e
+  | no z ↦ lt-ltb 0 n (omega arith) ∙ sym (ap not (ne-eqb n 0 z))
+]
+
 -- ---- the symbols of a body that was written are those of the frame
 module _ (x : Symbols) (b : Body) where
   pub lsf-sent : (h : List ℕ) → x ≡ symbolsFrom Header b → b ≡ lsfBodyOf h → x ≡ lsfSymbolsOf (lsfFrame h)
   unfolding lsfSymbolsOf
   lsf-sent h p q = p ∙ ap (symbolsFrom Header) q
 
-  pub stream-sent : (i : ℕ) (part : List ℕ) (n end : ℕ) (s : List ℕ) → x ≡ symbolsFrom Stream b → b ≡ streamBodyOf i part n (yes end) s
+  pub stream-sent : (i : ℕ) (part : List ℕ) (n end : ℕ) (s : List ℕ) → x ≡ symbolsFrom Stream b → b ≡ streamBodyOf i part n (ltb 0 end) s
       → x ≡ streamSymbolsOf (streamFrame i part n end s)
   unfolding streamSymbolsOf
-  stream-sent i part n end s p q = p ∙ ap (symbolsFrom Stream) q
+  stream-sent i part n end s p q = p ∙ ap (symbolsFrom Stream) (q ∙ ap (λ (t : Bool). streamBodyOf i part n t s) (not-zero end))
 
   pub packet-sent : (final n : ℕ) (s : List ℕ) → x ≡ symbolsFrom Packet b → b ≡ packetBodyOf (counterFor final n) s → x ≡ packetSymbolsOf (packetFrame final n s)
   unfolding packetSymbolsOf

@@ -1,5 +1,5 @@
 -- Gathered parts: how many flags there can be, and lent memory after a part was set or a header assembled. Assumes nothing.
-use mathlib.Core.Path.{_≡_, refl, sym, ap, _∙_}
+use mathlib.Core.Path.{_≡_, sym, ap, _∙_}
 use mathlib.Core.Bool.{Bool, true, false}
 use mathlib.Core.List.{List, [], _∷_}
 use Prim.Native.Nat.{ℕ, _≤_}
@@ -13,9 +13,9 @@ use Rattle.refusal.specs.declared.Verdict.the-variants.{Done}
 use Rattle.protocol.specs.declared.Assembled.{Assembled}
 use Rattle.protocol.specs.declared.Assembly.the-variants.{Header, NotYet}
 use Rattle.protocol.specs.declared.Collected.{Collected}
-use Rattle.protocol.specs.Lich.{flagsSet}
+use Rattle.protocol.specs.Lich.{flagsSet, assembledNumber}
 use Rattle.m17.specs.Given.{bytesGiven, numberGiven}
-use Rattle.m17.specs.Gathered.{flagBytes, bothLong, allLong, assembledNumber, assembledGiven}
+use Rattle.m17.specs.Gathered.{flagBytes, bothLong, allLong, assembledGiven}
 use Rattle.m17.proofs.Lent.{Lent}
 
 pub few : (l : List Bool) → flagsSet l ≤ length l

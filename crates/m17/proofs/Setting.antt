@@ -21,8 +21,8 @@ use Rattle.protocol.specs.declared.DataType.{DataType}
 use Rattle.protocol.specs.declared.LsfFrame.{LsfFrame}
 use Rattle.protocol.specs.declared.Made.{Made}
 use Rattle.protocol.specs.Fields.{Place, channelBits, bitsAt, field, setField}
-use Rattle.protocol.specs.Header.{header, answered, fromOf, addressSet, numberSet, newSaid, newOf}
-use Rattle.m17.specs.Kinds.{addressFor, addressWrittenOf}
+use Rattle.protocol.specs.Header.{header, answered, fromOf, addressSet, channelSet, newSaid, newOf}
+use Rattle.m17.specs.Addresses.{addressFor, addressWrittenOf}
 use Rattle.m17.specs.Header.{thirty, upTo, withAddress, bothJudged, newJudged, newFor}
 
 no-refusal : {why : Refusal} → {A : Type 0} → Refused why ≡ Done → A
@@ -74,7 +74,7 @@ module _ (p : Place) (f : ℕ → ℕ) (all : T (every (λ k. eqb (f k) k) (2 ^ 
 made-bytes : (w : Verdict) (b : List ℕ) → w ≡ Done → answered w b .header .bytes ≡ b
 made-bytes w b p = simp p
 
-pub number-set : (s : List ℕ) (h : LsfFrame) (m : Made) (n : ℕ) → h ≡ fromOf s .header → m ≡ numberSet n (h .bytes) → length s ≡ 30 → upTo 15 n ≡ Done
+pub number-set : (s : List ℕ) (h : LsfFrame) (m : Made) (n : ℕ) → h ≡ fromOf s .header → m ≡ channelSet n (h .bytes) → length s ≡ 30 → upTo 15 n ≡ Done
     → m .header .bytes ≡ setField channelBits n s
 number-set s h m n e q long d =
     let under : n ≤ 15 = at-most 15 n d in

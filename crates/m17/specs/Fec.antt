@@ -16,5 +16,5 @@ kindFor k = cond (eqb k 0) Header (cond (eqb k 1) Stream Packet)
 unfoldable pub codedOf : ℕ → List ℕ → Coded
 codedOf k d = cond (ltb 2 k) (notEncoded OutOfRange) (encodedOf (kindFor k) d)
 
-unfoldable pub readOf : ℕ → List ℕ → Decoded
-readOf k rx = cond (ltb 2 k) (notDecoded OutOfRange) (decodedOf (kindFor k) rx)
+unfoldable pub kindReadOf : ℕ → List ℕ → Decoded
+kindReadOf k rx = cond (ltb 2 k) (notDecoded OutOfRange) (decodedOf (kindFor k) rx)

@@ -1,6 +1,6 @@
 -- Frames as numbers and buffers, and what the memory lent for one holds after it is read. Assumes nothing.
 use mathlib.Core.Path.{_≡_}
-use mathlib.Core.Bool.{Bool, cond, _&&_}
+use mathlib.Core.Bool.{cond, _&&_}
 use mathlib.Core.List.{List}
 use Prim.Native.Nat.{ℕ}
 use lib.Dec.{eqb, ltb}
@@ -10,6 +10,7 @@ use Rattle.refusal.specs.declared.Refusal.the-variants.{WrongLength, OutOfRange
 use Rattle.refusal.specs.declared.Verdict.{Verdict}
 use Rattle.refusal.specs.declared.Verdict.the-variants.{Done, Refused}
 use Rattle.bits.specs.Bits.{bit}
+use Rattle.bits.specs.Places.{flag}
 use Rattle.protocol.specs.declared.LsfFrame.{LsfFrame}
 use Rattle.protocol.specs.declared.PacketFrame.{PacketFrame}
 use Rattle.protocol.specs.declared.PacketFrameCounter.{PacketFrameCounter}
@@ -25,15 +26,11 @@ use Rattle.decode.specs.declared.StreamRead.{StreamRead}
 use Rattle.decode.specs.Lich.{numberOfCounted}
 use Rattle.m17.specs.Fec.{kindFor}
 
--- ---- what crosses as a number
-
--- 0 is no, anything else yes
-abbrev pub yes : ℕ → Bool
-yes n = ltb 0 n
+-- ---- what crosses as a number: 0 is no, anything else yes (`flag`)
 
 -- 0 is a frame with its index, anything else the final frame with its length
 abbrev pub counterFor : ℕ → ℕ → PacketFrameCounter
-counterFor final n = cond (yes final) (FinalFrame n) (Frame n)
+counterFor final n = cond (flag final) (FinalFrame n) (Frame n)
 
 abbrev pub finalOf : PacketFrameCounter → ℕ
 finalOf (Frame n) = 0
@@ -49,7 +46,7 @@ abbrev pub lsfFrame : List ℕ → LsfFrame
 lsfFrame h = record { bytes = h }
 
 abbrev pub streamFrame : ℕ → List ℕ → ℕ → ℕ → List ℕ → StreamFrame
-streamFrame i p n end s = record { «lich_idx» = i; «lich_part» = p; «frame_number» = n; «end_of_stream» = yes end; «stream_data» = s }
+streamFrame i p n end s = record { «lich_idx» = i; «lich_part» = p; «frame_number» = n; «end_of_stream» = flag end; «stream_data» = s }
 
 abbrev pub packetFrame : ℕ → ℕ → List ℕ → PacketFrame
 packetFrame final n p = record { payload = p; counter = counterFor final n }

@@ -14,7 +14,7 @@ use Rattle.protocol.specs.declared.Mode.{Mode}
 use Rattle.protocol.specs.declared.DataType.{DataType}
 use Rattle.protocol.specs.Fields.{Place, setField}
 use Rattle.protocol.specs.Header.{newSaid, newBytes}
-use Rattle.m17.specs.Kinds.{addressFor}
+use Rattle.m17.specs.Addresses.{addressFor}
 
 -- 1 where there are not thirty bytes
 abbrev pub thirty : List ℕ → Verdict

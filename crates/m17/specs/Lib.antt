@@ -1,5 +1,5 @@
 pub mod Given
-pub mod Kinds
+pub mod Addresses
 pub mod Fec
 pub mod Header
 pub mod Frames

@@ -1,6 +1,7 @@
 // LICHs, bodies and symbols for C. A frame crosses as its fields: a number for yes and no, 0 or anything else, and a number beside
 // `final_frame` that is an index or a length.
 ghost use mathlib.Core.Path.{_≡_};
+ghost use Rattle.bits.specs.Places.{flag};
 ghost use Rattle.encode.specs.Lich.{lichOf};
 ghost use Rattle.encode.specs.Bodies.{lsfBodyOf, streamBodyOf, packetBodyOf};
 ghost use Rattle.encode.specs.Symbols.{unsent, lsfSymbolsOf, streamSymbolsOf, packetSymbolsOf};
@@ -8,7 +9,7 @@ ghost use Rattle.decode.specs.Lich.{lichReadOf};
 ghost use Rattle.decode.specs.Bodies.{lsfReadOf, streamReadOf, packetReadOf};
 ghost use Rattle.decode.specs.Symbols.{bodyReadOf, initialOf, lsfParsedOf, streamParsedOf, packetParsedOf};
 ghost use Rattle.m17.specs.Given.{lentSaid, lentBytes};
-ghost use Rattle.m17.specs.Frames.{yes, counterFor, finalOf, numberIn, lsfFrame, streamFrame, packetFrame, framedOf, lichMemory, LichLent, streamMemory, StreamLent, packetMemory, PacketLent};
+ghost use Rattle.m17.specs.Frames.{counterFor, finalOf, numberIn, lsfFrame, streamFrame, packetFrame, framedOf, lichMemory, LichLent, streamMemory, StreamLent, packetMemory, PacketLent};
 use super::flag;
 use super::give;
 use super::kind_for;
@@ -177,7 +178,7 @@ pub extern "C" fn m17_write_stream(
     stream_data: &[u8],
     out: &mut [u8],
 ) -> u8
-    ensures { λ r. ⌜ (r ≡ lentSaid 46 (now (out .entry)) (streamBodyOf «lich_idx» (now («lich_part» .entry)) «frame_number» (yes «end_of_stream») (now («stream_data» .entry)) .answer)) × (now (out .exit) ≡ lentBytes 46 (now (out .entry)) (streamBodyOf «lich_idx» (now («lich_part» .entry)) «frame_number» (yes «end_of_stream») (now («stream_data» .entry)) .answer) (streamBodyOf «lich_idx» (now («lich_part» .entry)) «frame_number» (yes «end_of_stream») (now («stream_data» .entry)) .bytes)) ⌝ }
+    ensures { λ r. ⌜ (r ≡ lentSaid 46 (now (out .entry)) (streamBodyOf «lich_idx» (now («lich_part» .entry)) «frame_number» (flag «end_of_stream») (now («stream_data» .entry)) .answer)) × (now (out .exit) ≡ lentBytes 46 (now (out .entry)) (streamBodyOf «lich_idx» (now («lich_part» .entry)) «frame_number» (flag «end_of_stream») (now («stream_data» .entry)) .answer) (streamBodyOf «lich_idx» (now («lich_part» .entry)) «frame_number» (flag «end_of_stream») (now («stream_data» .entry)) .bytes)) ⌝ }
 {
     let done = encode::write_stream(
         lich_idx,

@@ -1,13 +1,13 @@
 // Gathered LICH parts for C: 30 bytes, and a byte for each of six flags.
 ghost use mathlib.Core.Path.{_≡_};
-ghost use mathlib.Core.Bool.{cond, not};
-ghost use lib.Dec.{eqb};
+ghost use mathlib.Core.Bool.{cond};
 ghost use lib.ListN.{length};
 ghost use Rattle.refusal.specs.Number.{saidOf};
 ghost use Rattle.refusal.specs.declared.Verdict.the-variants as verdict;
-ghost use Rattle.protocol.specs.Lich.{flagsSet, setOf, assembledOf};
+ghost use Rattle.bits.specs.Places.{flag};
+ghost use Rattle.protocol.specs.Lich.{flagsSet, setOf, assembledNumber, assembledOf};
 ghost use Rattle.m17.specs.Given.{numberGiven, bytesGiven, lentSaid, lentBytes};
-ghost use Rattle.m17.specs.Gathered.{flagged, flagBytes, gathered, sixFlags, bothLong, allLong, assembledNumber, assembledGiven};
+ghost use Rattle.m17.specs.Gathered.{flagged, flagBytes, collectionFor, sixFlags, bothLong, allLong, assembledGiven};
 use super::give;
 use protocol::Assembly;
 use protocol::LichCollection;
@@ -15,7 +15,7 @@ use protocol::LsfFrame;
 use refusal::Verdict;
 
 fn flag(byte: u8) -> bool
-    ensures { λ r. ⌜ r ≡ not (eqb byte 0) ⌝ }
+    ensures { λ r. ⌜ r ≡ flag byte ⌝ }
 {
     byte != 0
 }
@@ -58,7 +58,7 @@ fn flag_bytes(flags: [bool; 6]) -> [u8; 6]
 
 fn collection(parts: &[u8], set: &[u8]) -> LichCollection
     requires { ⌜ (length (now parts) ≡ 30) × (length (now set) ≡ 6) ⌝ }
-    ensures { λ r. ⌜ r ≡ gathered (now (parts .entry)) (now (set .entry)) ⌝ }
+    ensures { λ r. ⌜ r ≡ collectionFor (now (parts .entry)) (now (set .entry)) ⌝ }
 {
     let made = LsfFrame::from_bytes(parts);
     let header = made.header;
@@ -92,7 +92,7 @@ fn give_parts(answer: Verdict, new: LichCollection, parts: &mut [u8]) -> u8
 
 #[no_mangle]
 pub extern "C" fn m17_set_segment(parts: &mut [u8], set: &mut [u8], counter: u8, part: &[u8]) -> u8
-    ensures { λ r. ⌜ (r ≡ saidOf (bothLong (now (parts .entry)) (now (set .entry)) (setOf counter (now (part .entry)) (gathered (now (parts .entry)) (now (set .entry))) .answer))) × (now (parts .exit) ≡ bytesGiven (bothLong (now (parts .entry)) (now (set .entry)) (setOf counter (now (part .entry)) (gathered (now (parts .entry)) (now (set .entry))) .answer)) (setOf counter (now (part .entry)) (gathered (now (parts .entry)) (now (set .entry))) .collection .bytes) (now (parts .entry))) × (now (set .exit) ≡ bytesGiven (bothLong (now (parts .entry)) (now (set .entry)) (setOf counter (now (part .entry)) (gathered (now (parts .entry)) (now (set .entry))) .answer)) (flagBytes (setOf counter (now (part .entry)) (gathered (now (parts .entry)) (now (set .entry))) .collection .set)) (now (set .entry))) ⌝ }
+    ensures { λ r. ⌜ (r ≡ saidOf (bothLong (now (parts .entry)) (now (set .entry)) (setOf counter (now (part .entry)) (collectionFor (now (parts .entry)) (now (set .entry))) .answer))) × (now (parts .exit) ≡ bytesGiven (bothLong (now (parts .entry)) (now (set .entry)) (setOf counter (now (part .entry)) (collectionFor (now (parts .entry)) (now (set .entry))) .answer)) (setOf counter (now (part .entry)) (collectionFor (now (parts .entry)) (now (set .entry))) .collection .bytes) (now (parts .entry))) × (now (set .exit) ≡ bytesGiven (bothLong (now (parts .entry)) (now (set .entry)) (setOf counter (now (part .entry)) (collectionFor (now (parts .entry)) (now (set .entry))) .answer)) (flagBytes (setOf counter (now (part .entry)) (collectionFor (now (parts .entry)) (now (set .entry))) .collection .set)) (now (set .entry))) ⌝ }
 {
     if parts.len() != 30 {
         return 1;
@@ -116,7 +116,7 @@ pub extern "C" fn m17_try_assemble(
     assembled: &mut u8,
     out: &mut [u8],
 ) -> u8
-    ensures { λ r. ⌜ (r ≡ saidOf (allLong (now (parts .entry)) (now (set .entry)) (now (out .entry)))) × (now (assembled .exit) ≡ numberGiven (allLong (now (parts .entry)) (now (set .entry)) (now (out .entry))) (assembledNumber (assembledOf (gathered (now (parts .entry)) (now (set .entry))) .answer)) (now (assembled .entry))) × (now (out .exit) ≡ bytesGiven (allLong (now (parts .entry)) (now (set .entry)) (now (out .entry))) (assembledGiven (assembledOf (gathered (now (parts .entry)) (now (set .entry))) .answer) (assembledOf (gathered (now (parts .entry)) (now (set .entry))) .bytes) (now (out .entry))) (now (out .entry))) ⌝ }
+    ensures { λ r. ⌜ (r ≡ saidOf (allLong (now (parts .entry)) (now (set .entry)) (now (out .entry)))) × (now (assembled .exit) ≡ numberGiven (allLong (now (parts .entry)) (now (set .entry)) (now (out .entry))) (assembledNumber (assembledOf (collectionFor (now (parts .entry)) (now (set .entry))) .answer)) (now (assembled .entry))) × (now (out .exit) ≡ bytesGiven (allLong (now (parts .entry)) (now (set .entry)) (now (out .entry))) (assembledGiven (assembledOf (collectionFor (now (parts .entry)) (now (set .entry))) .answer) (assembledOf (collectionFor (now (parts .entry)) (now (set .entry))) .bytes) (now (out .entry))) (now (out .entry))) ⌝ }
 {
     if parts.len() != 30 {
         return 1;

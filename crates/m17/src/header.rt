@@ -8,7 +8,7 @@ ghost use Rattle.protocol.specs.Numbers.{modeNumber, modeOf, dataNumber, dataOf
 ghost use Rattle.protocol.specs.Fields.{destinationBytes, sourceBytes, modeBits, dataBits, encryptionBits, channelBits, field, setField};
 ghost use Rattle.protocol.specs.Header.{fromOf};
 ghost use Rattle.m17.specs.Given.{numberGiven, lentSaid, lentBytes, heardInto, heardGiven, charactersGiven};
-ghost use Rattle.m17.specs.Kinds.{kindOf, reservedOf, addressWrittenOf};
+ghost use Rattle.m17.specs.Addresses.{addressKind, reservedOf, addressWrittenOf};
 ghost use Rattle.m17.specs.Header.{thirty, addressAt, upTo, withAddress, bothJudged, newJudged, newFor};
 use super::address_for;
 use super::give;
@@ -73,7 +73,7 @@ pub extern "C" fn m17_destination(
     value: &mut u64,
     callsign: &mut [u8],
 ) -> u8
-    ensures { λ r. ⌜ (r ≡ numberOfHeard (heardInto (now (callsign .entry)) (addressAt 0 (now (header .entry)) .answer))) × (now (kind .exit) ≡ heardGiven kindOf (heardInto (now (callsign .entry)) (addressAt 0 (now (header .entry)) .answer)) (now (kind .entry))) × (now (value .exit) ≡ heardGiven reservedOf (heardInto (now (callsign .entry)) (addressAt 0 (now (header .entry)) .answer)) (now (value .entry))) × (now (callsign .exit) ≡ charactersGiven (heardInto (now (callsign .entry)) (addressAt 0 (now (header .entry)) .answer)) (addressAt 0 (now (header .entry)) .callsign) (now (callsign .entry))) ⌝ }
+    ensures { λ r. ⌜ (r ≡ numberOfHeard (heardInto (now (callsign .entry)) (addressAt 0 (now (header .entry)) .answer))) × (now (kind .exit) ≡ heardGiven addressKind (heardInto (now (callsign .entry)) (addressAt 0 (now (header .entry)) .answer)) (now (kind .entry))) × (now (value .exit) ≡ heardGiven reservedOf (heardInto (now (callsign .entry)) (addressAt 0 (now (header .entry)) .answer)) (now (value .entry))) × (now (callsign .exit) ≡ charactersGiven (heardInto (now (callsign .entry)) (addressAt 0 (now (header .entry)) .answer)) (addressAt 0 (now (header .entry)) .callsign) (now (callsign .entry))) ⌝ }
 {
     give_address(destination_of(header), kind, value, callsign)
 }
@@ -97,7 +97,7 @@ pub extern "C" fn m17_source(
     value: &mut u64,
     callsign: &mut [u8],
 ) -> u8
-    ensures { λ r. ⌜ (r ≡ numberOfHeard (heardInto (now (callsign .entry)) (addressAt 6 (now (header .entry)) .answer))) × (now (kind .exit) ≡ heardGiven kindOf (heardInto (now (callsign .entry)) (addressAt 6 (now (header .entry)) .answer)) (now (kind .entry))) × (now (value .exit) ≡ heardGiven reservedOf (heardInto (now (callsign .entry)) (addressAt 6 (now (header .entry)) .answer)) (now (value .entry))) × (now (callsign .exit) ≡ charactersGiven (heardInto (now (callsign .entry)) (addressAt 6 (now (header .entry)) .answer)) (addressAt 6 (now (header .entry)) .callsign) (now (callsign .entry))) ⌝ }
+    ensures { λ r. ⌜ (r ≡ numberOfHeard (heardInto (now (callsign .entry)) (addressAt 6 (now (header .entry)) .answer))) × (now (kind .exit) ≡ heardGiven addressKind (heardInto (now (callsign .entry)) (addressAt 6 (now (header .entry)) .answer)) (now (kind .entry))) × (now (value .exit) ≡ heardGiven reservedOf (heardInto (now (callsign .entry)) (addressAt 6 (now (header .entry)) .answer)) (now (value .entry))) × (now (callsign .exit) ≡ charactersGiven (heardInto (now (callsign .entry)) (addressAt 6 (now (header .entry)) .answer)) (addressAt 6 (now (header .entry)) .callsign) (now (callsign .entry))) ⌝ }
 {
     give_address(source_of(header), kind, value, callsign)
 }

@@ -11,8 +11,8 @@ ghost use Rattle.interleave.specs.Interleave.{interleavedOf};
 ghost use Rattle.address.specs.Address.{decodedOf as addressReadOf, numberOfHeard, unwritten};
 ghost use Rattle.golay.specs.Golay.{encodedOf, decodedOf, numberOfCodeword, numberOfReading};
 ghost use Rattle.m17.specs.Given.{bitGiven, numberGiven, lentSaid, lentBytes, wordGiven, dataGiven, heardInto, heardGiven, charactersGiven};
-ghost use Rattle.m17.specs.Fec.{kindFor, codedOf, readOf};
-ghost use Rattle.m17.specs.Kinds.{kindOf, reservedOf, addressFor, addressWrittenOf};
+ghost use Rattle.m17.specs.Fec.{kindFor, codedOf, kindReadOf};
+ghost use Rattle.m17.specs.Addresses.{addressKind, reservedOf, addressFor, addressWrittenOf};
 
 mod frames;
 mod gathered;
@@ -173,7 +173,7 @@ pub extern "C" fn m17_golay_decode(word: u32, out: &mut u16) -> u8
 }
 
 fn kind_of(address: Address) -> u8
-    ensures { λ r. ⌜ r ≡ kindOf address ⌝ }
+    ensures { λ r. ⌜ r ≡ addressKind address ⌝ }
 {
     match address {
         Address::Invalid => 0,
@@ -196,7 +196,7 @@ fn reserved_of(address: Address) -> u64
 
 // An address that was read, with its characters. The length of `out` is judged first.
 fn give_address(read: address::Reading, kind: &mut u8, value: &mut u64, out: &mut [u8]) -> u8
-    ensures { λ r. ⌜ (r ≡ numberOfHeard (heardInto (now (out .entry)) (read .answer))) × (now (kind .exit) ≡ heardGiven kindOf (heardInto (now (out .entry)) (read .answer)) (now (kind .entry))) × (now (value .exit) ≡ heardGiven reservedOf (heardInto (now (out .entry)) (read .answer)) (now (value .entry))) × (now (out .exit) ≡ charactersGiven (heardInto (now (out .entry)) (read .answer)) (read .callsign) (now (out .entry))) ⌝ }
+    ensures { λ r. ⌜ (r ≡ numberOfHeard (heardInto (now (out .entry)) (read .answer))) × (now (kind .exit) ≡ heardGiven addressKind (heardInto (now (out .entry)) (read .answer)) (now (kind .entry))) × (now (value .exit) ≡ heardGiven reservedOf (heardInto (now (out .entry)) (read .answer)) (now (value .entry))) × (now (out .exit) ≡ charactersGiven (heardInto (now (out .entry)) (read .answer)) (read .callsign) (now (out .entry))) ⌝ }
 {
     if out.len() != 9 {
         return 1;
@@ -220,7 +220,7 @@ pub extern "C" fn m17_decode_address(
     value: &mut u64,
     callsign: &mut [u8],
 ) -> u8
-    ensures { λ r. ⌜ (r ≡ numberOfHeard (heardInto (now (callsign .entry)) (addressReadOf (now (encoded .entry)) .answer))) × (now (kind .exit) ≡ heardGiven kindOf (heardInto (now (callsign .entry)) (addressReadOf (now (encoded .entry)) .answer)) (now (kind .entry))) × (now (value .exit) ≡ heardGiven reservedOf (heardInto (now (callsign .entry)) (addressReadOf (now (encoded .entry)) .answer)) (now (value .entry))) × (now (callsign .exit) ≡ charactersGiven (heardInto (now (callsign .entry)) (addressReadOf (now (encoded .entry)) .answer)) (addressReadOf (now (encoded .entry)) .callsign) (now (callsign .entry))) ⌝ }
+    ensures { λ r. ⌜ (r ≡ numberOfHeard (heardInto (now (callsign .entry)) (addressReadOf (now (encoded .entry)) .answer))) × (now (kind .exit) ≡ heardGiven addressKind (heardInto (now (callsign .entry)) (addressReadOf (now (encoded .entry)) .answer)) (now (kind .entry))) × (now (value .exit) ≡ heardGiven reservedOf (heardInto (now (callsign .entry)) (addressReadOf (now (encoded .entry)) .answer)) (now (value .entry))) × (now (callsign .exit) ≡ charactersGiven (heardInto (now (callsign .entry)) (addressReadOf (now (encoded .entry)) .answer)) (addressReadOf (now (encoded .entry)) .callsign) (now (callsign .entry))) ⌝ }
 {
     give_address(address::decode_address(encoded), kind, value, callsign)
 }
@@ -295,7 +295,7 @@ fn coded(kind: u8, plain: &[u8]) -> Coded
 }
 
 fn read(kind: u8, received: &[u8]) -> Decoded
-    ensures { λ r. ⌜ r ≡ readOf kind (now (received .entry)) ⌝ }
+    ensures { λ r. ⌜ r ≡ kindReadOf kind (now (received .entry)) ⌝ }
 {
     if 2 < kind {
         return Decoded {
@@ -318,7 +318,7 @@ pub extern "C" fn m17_fec_encode(kind: u8, plain: &[u8], out: &mut [u8]) -> u8
 
 #[no_mangle]
 pub extern "C" fn m17_fec_decode(kind: u8, received: &[u8], out: &mut [u8]) -> u8
-    ensures { λ r. ⌜ (r ≡ lentSaid 30 (now (out .entry)) (readOf kind (now (received .entry)) .answer)) × (now (out .exit) ≡ lentBytes 30 (now (out .entry)) (readOf kind (now (received .entry)) .answer) (readOf kind (now (received .entry)) .bytes)) ⌝ }
+    ensures { λ r. ⌜ (r ≡ lentSaid 30 (now (out .entry)) (kindReadOf kind (now (received .entry)) .answer)) × (now (out .exit) ≡ lentBytes 30 (now (out .entry)) (kindReadOf kind (now (received .entry)) .answer) (kindReadOf kind (now (received .entry)) .bytes)) ⌝ }
 {
     let done = read(kind, received);
     let answer = done.answer;

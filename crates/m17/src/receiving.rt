@@ -2,7 +2,8 @@
 ghost use mathlib.Core.Path.{_≡_};
 ghost use Rattle.automaton.specs.Step.{idle};
 ghost use Rattle.receiver.specs.Receiver.{receiverFor, receivedOf, memoryOf};
-ghost use Rattle.m17.specs.Receiving.{phaseFor, heldBy, phaseNumber, phaseCount, stateFor, lateNumber, answerNumber, answerCount, answerSaid, nextFor, crossed};
+ghost use Rattle.m17.specs.Receiving.{phaseFrom, heldBy, phaseNumber, phaseCount, stateFor, nextFor, crossed};
+ghost use Rattle.receiver.specs.Numbers.{lateNumber, answerNumber, answerCount, answerSaid};
 use super::M17Received;
 use super::M17Receiver;
 use super::flag;
@@ -13,7 +14,7 @@ use receiver::Received;
 use receiver::Receiver;
 
 fn phase_for(phase: u8, count: usize) -> Phase
-    ensures { λ r. ⌜ r ≡ phaseFor phase count ⌝ }
+    ensures { λ r. ⌜ r ≡ phaseFrom phase count ⌝ }
 {
     if phase == 0 {
         return Phase::Idle;

@@ -22,16 +22,16 @@ use Rattle.protocol.specs.declared.Mode.{Mode}
 use Rattle.protocol.specs.declared.DataType.{DataType}
 use Rattle.protocol.specs.declared.LichCollection.{LichCollection}
 use Rattle.protocol.specs.Fields.{Place}
-use Rattle.protocol.specs.Header.{fromOf, addressSet, numberSet, first, newSaid, newBytes, newOf}
+use Rattle.protocol.specs.Header.{fromOf, addressSet, channelSet, first, newSaid, newBytes, newOf}
 use Rattle.protocol.specs.Lich.{partSaid, withPart, collected, setOf}
-use Rattle.protocol.specs.When.{FromExactly, NumberExactly, NewExactly, PartExactly}
+use Rattle.protocol.specs.When.{FromExactly, ChannelExactly, NewExactly, PartExactly}
 use Rattle.protocol.proofs.NewHeader.{answered-said}
 
 pub from-exactly : (s : List ℕ) → FromExactly s (saidOf (fromOf s .answer))
 from-exactly s = record { one-if = λ n. rw (ne-eqb (length s) 30 n); done-if = λ e. rw (eq-eqb (length s) 30 e) }
 
-pub number-exactly : (c : ℕ) (s : List ℕ) → NumberExactly c (saidOf (numberSet c s .answer))
-number-exactly c s = record { two-if = λ h. rw (lt-leb c 15 h); done-if = λ h. rw (le-leb c 15 h) }
+pub channel-exactly : (c : ℕ) (s : List ℕ) → ChannelExactly c (saidOf (channelSet c s .answer))
+channel-exactly c s = record { two-if = λ h. rw (lt-leb c 15 h); done-if = λ h. rw (le-leb c 15 h) }
 
 -- setting an address refuses as writing it does
 pub address-exactly : (p : Place) (a : Address) (cs s : List ℕ) → WrittenExactly a cs (saidOf (addressSet p a cs s .answer))

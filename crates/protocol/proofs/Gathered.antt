@@ -16,7 +16,7 @@ use Rattle.laws.proofs.Values.{length-tabled, tabled-at, tabled-only}
 use Rattle.protocol.specs.declared.LichCollection.{LichCollection}
 use Rattle.protocol.specs.declared.Assembly.the-variants.{Header, NotYet}
 use Rattle.protocol.specs.Lich.{flagsSet, withPart, collected, setOf, assembledOf}
-use Rattle.protocol.specs.Sequence.{Segment, after, setsAt, wasSet, last, joined}
+use Rattle.protocol.specs.Sequence.{Segment, afterSegments, setsAt, wasSet, last, joined}
 
 -- ---- parts of five bytes, one after the other, and one of them replaced
 
@@ -140,8 +140,8 @@ module _ (x : Segment) (h : List Segment) where
 
 -- ---- after any sequence
 
-after-holds : (h : List Segment) → after h ≡ holding h
-unfolding after holding parts flat last wasSet valuesFrom
+after-holds : (h : List Segment) → afterSegments h ≡ holding h
+unfolding afterSegments holding parts flat last wasSet valuesFrom
 after-holds [] = refl
 after-holds (x ∷ h) = ap (λ (l : LichCollection). setOf (x .counter) (x .part) l .collection) (after-holds h) ∙ step x h
 
@@ -169,26 +169,26 @@ flags-some (true ∷ l) (suc k) h e = omega (arith, flags-some l k (omega arith)
 flags-some (false ∷ l) (suc k) h e = omega (arith, flags-le l)
 
 module _ (h : List Segment) where
-  flag : (k : ℕ) → k < 6 → getD (after h .set) k false ≡ wasSet h k
+  flag : (k : ℕ) → k < 6 → getD (afterSegments h .set) k false ≡ wasSet h k
   unfolding holding
   flag k b = ap (λ (l : LichCollection). getD (l .set) k false) (after-holds h) ∙ tabled-at (wasSet h) 6 k false b
 
-  six : length (after h .set) ≡ 6
+  six : length (afterSegments h .set) ≡ 6
   unfolding holding
   six = ap (λ (l : LichCollection). length (l .set)) (after-holds h) ∙ length-tabled (wasSet h) 6
 
-  bytes : after h .bytes ≡ joined h
+  bytes : afterSegments h .bytes ≡ joined h
   unfolding holding
   bytes = ap (λ (l : LichCollection). l .bytes) (after-holds h) ∙ flat-joined h
 
   -- a part was set at each counter: the last ones, joined
-  pub assembles : ((k : ℕ) → k < 6 → wasSet h k ≡ true) → assembledOf (after h) ≡ record { answer = Header; bytes = joined h }
+  pub assembles : ((k : ℕ) → k < 6 → wasSet h k ≡ true) → assembledOf (afterSegments h) ≡ record { answer = Header; bytes = joined h }
   assembles all =
-      let n : flagsSet (after h .set) ≡ 6 = flags-all (after h .set) (λ k b. let c : k < 6 = omega (arith, six) in flag k c ∙ all k c) ∙ six in
-      rw (eq-eqb (flagsSet (after h .set)) 6 n) (ap (λ (b : List ℕ). record { answer = Header; bytes = b }) bytes)
+      let n : flagsSet (afterSegments h .set) ≡ 6 = flags-all (afterSegments h .set) (λ k b. let c : k < 6 = omega (arith, six) in flag k c ∙ all k c) ∙ six in
+      rw (eq-eqb (flagsSet (afterSegments h .set)) 6 n) (ap (λ (b : List ℕ). record { answer = Header; bytes = b }) bytes)
 
   -- at one of them none was set: not yet
-  pub not-yet : (k : ℕ) → k < 6 → wasSet h k ≡ false → assembledOf (after h) ≡ record { answer = NotYet; bytes = replicate 30 0 }
+  pub not-yet : (k : ℕ) → k < 6 → wasSet h k ≡ false → assembledOf (afterSegments h) ≡ record { answer = NotYet; bytes = replicate 30 0 }
   not-yet k b e =
-      let n : flagsSet (after h .set) < 6 = omega (arith, six, flags-some (after h .set) k (omega (arith, six)) (flag k b ∙ e)) in
-      rw (ne-eqb (flagsSet (after h .set)) 6 (λ q. omega arith))
+      let n : flagsSet (afterSegments h .set) < 6 = omega (arith, six, flags-some (afterSegments h .set) k (omega (arith, six)) (flag k b ∙ e)) in
+      rw (ne-eqb (flagsSet (afterSegments h .set)) 6 (λ q. omega arith))

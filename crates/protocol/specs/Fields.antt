@@ -15,7 +15,7 @@ pub record Place : Type 0 where
 unfoldable pub bitsAt : Place → ℕ → ℕ
 bitsAt p n = n / 2 ^ (p .low) % 2 ^ (p .width)
 
--- the number with v at a place, all other bits kept
+-- the number with v, below 2^width, at a place, all other bits kept
 unfoldable pub withBits : Place → ℕ → ℕ → ℕ
 withBits p v n = n / 2 ^ (p .low + p .width) * 2 ^ (p .low + p .width) + v * 2 ^ (p .low) + n % 2 ^ (p .low)
 
@@ -67,6 +67,6 @@ field p s = bitsAt p (fieldsOf s)
 unfoldable pub renewed : ℕ → List ℕ
 renewed n = inBytes 28 n ++ inBytes 2 (crc (inBytes 28 n))
 
--- a header with v in a field, its CRC renewed
+-- a header with v, below 2^width, in a field, its CRC renewed
 unfoldable pub setField : Place → ℕ → List ℕ → List ℕ
 setField p v s = renewed (withBits p v (fieldsOf s))

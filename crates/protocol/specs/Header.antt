@@ -39,8 +39,8 @@ abbrev pub addressSet : Place → Address → List ℕ → List ℕ → Made
 addressSet p a cs s = answered (encodedOf a cs .answer) (setField p (addressValue a cs) s)
 
 -- a channel access number set: 2 where it is over 15
-abbrev pub numberSet : ℕ → List ℕ → Made
-numberSet n s = answered (cond (leb n 15) Done (Refused OutOfRange)) (setField channelBits n s)
+abbrev pub channelSet : ℕ → List ℕ → Made
+channelSet n s = answered (cond (leb n 15) Done (Refused OutOfRange)) (setField channelBits n s)
 
 -- two verdicts: the first refusal
 abbrev pub first : Verdict → Verdict → Verdict

@@ -3,12 +3,13 @@ use mathlib.Core.Bool.{Bool, true, false, cond}
 use mathlib.Core.List.{List, [], _∷_, _++_}
 use Prim.Native.Nat.{ℕ, suc, _+_, _*_}
 use lib.Dec.{eqb, leb}
-use lib.ListN.{length, replicate, take, drop, set}
+use lib.ListN.{length, replicate, take, drop, set as replaced}
 use Rattle.refusal.specs.declared.Refusal.the-variants.{WrongLength, OutOfRange}
 use Rattle.refusal.specs.declared.Verdict.{Verdict}
 use Rattle.refusal.specs.declared.Verdict.the-variants.{Done, Refused}
 use Rattle.protocol.specs.declared.LichCollection.{LichCollection}
 use Rattle.protocol.specs.declared.Collected.{Collected}
+use Rattle.protocol.specs.declared.Assembly.{Assembly}
 use Rattle.protocol.specs.declared.Assembly.the-variants.{Header, NotYet}
 use Rattle.protocol.specs.declared.Assembled.{Assembled}
 
@@ -27,7 +28,7 @@ partSaid c part = cond (eqb (length part) 5) (cond (leb c 5) Done (Refused OutOf
 
 -- part c is bytes 5c to 5c + 4
 abbrev pub withPart : ℕ → List ℕ → LichCollection → LichCollection
-withPart c part l = record { bytes = take (5 * c) (l .bytes) ++ part ++ drop (5 * c + 5) (l .bytes); set = set (l .set) c true }
+withPart c part l = record { bytes = take (5 * c) (l .bytes) ++ part ++ drop (5 * c + 5) (l .bytes); set = replaced (l .set) c true }
 
 -- a part set; on a refusal nothing changes
 abbrev pub collected : Verdict → LichCollection → LichCollection → Collected
@@ -36,6 +37,11 @@ collected (Refused why) old new = record { answer = Refused why; collection = ol
 
 abbrev pub setOf : ℕ → List ℕ → LichCollection → Collected
 setOf c part l = collected (partSaid c part) l (withPart c part l)
+
+-- the number of what is assembled: 1 for a header, 0 for "not yet"
+abbrev pub assembledNumber : Assembly → ℕ
+assembledNumber Header = 1
+assembledNumber NotYet = 0
 
 -- the 30 bytes where all six are set; else not yet, which is no refusal
 abbrev pub assembledOf : LichCollection → Assembled

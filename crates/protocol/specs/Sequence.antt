@@ -13,9 +13,9 @@ pub record Segment : Type 0 where
   pub part : List ℕ
 
 -- the collection after the sequence, from a new one on
-unfoldable pub after : List Segment → LichCollection
-after [] = empty
-after (x ∷ h) = setOf (x .counter) (x .part) (after h) .collection
+unfoldable pub afterSegments : List Segment → LichCollection
+afterSegments [] = empty
+afterSegments (x ∷ h) = setOf (x .counter) (x .part) (afterSegments h) .collection
 
 -- a part that is not refused, set at counter k
 abbrev pub setsAt : ℕ → Segment → Bool

@@ -13,7 +13,7 @@ pub record FromExactly (s : List ℕ) (n : ℕ) : Type 0 where
   pub done-if : length s ≡ 30 → n ≡ 0
 
 -- the channel access number c
-pub record NumberExactly (c n : ℕ) : Type 0 where
+pub record ChannelExactly (c n : ℕ) : Type 0 where
   pub two-if : 15 < c → n ≡ 2
   pub done-if : c ≤ 15 → n ≡ 0
 

@@ -8,7 +8,7 @@ ghost use Rattle.crc.specs.Crc.{crc};
 ghost use Rattle.address.specs.Address.{decodedOf};
 ghost use Rattle.protocol.specs.Numbers.{modeNumber, modeOf, dataNumber, dataOf, encryptionNumber, encryptionOf};
 ghost use Rattle.protocol.specs.Fields.{bytesFrom, destinationBytes, sourceBytes, typeBytes, modeBits, dataBits, encryptionBits, channelBits, fieldsOf, field, renewed, setField};
-ghost use Rattle.protocol.specs.Header.{header, refusedMade, answered, fromOf, addressSet, numberSet, newOf};
+ghost use Rattle.protocol.specs.Header.{header, refusedMade, answered, fromOf, addressSet, channelSet, newOf};
 ghost use Rattle.protocol.specs.Lich.{empty, flagsSet, setOf, assembledOf};
 use address::Address;
 use refusal::Refusal;
@@ -317,7 +317,7 @@ impl LsfFrame {
 
     // Type bits 7 to 10 set.
     pub fn set_channel_access_number(mut self, number: u8) -> Made
-        ensures { λ r. ⌜ r ≡ numberSet number (self .bytes) ⌝ }
+        ensures { λ r. ⌜ r ≡ channelSet number (self .bytes) ⌝ }
     {
         if 15 < number {
             return refused(Refusal::OutOfRange);

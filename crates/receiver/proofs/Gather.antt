@@ -21,7 +21,7 @@ use Rattle.receiver.specs.declared.Late.{Late}
 use Rattle.receiver.specs.declared.Late.the-variants.{Nothing, Header, Spoiled}
 use Rattle.receiver.specs.declared.Answer.the-variants.{Stream}
 use Rattle.receiver.specs.declared.Received.{Received}
-use Rattle.receiver.specs.See.{streamFields}
+use Rattle.receiver.specs.See.{seenStream}
 use Rattle.receiver.specs.Receiver.{meaning, stateOf, within, gathered, padded, noHeader, receivedFrom, taken}
 
 -- ---- parts in an array of 30 zeros
@@ -87,17 +87,17 @@ module _ (self : Receiver) (f : StreamFrame) where
 
   -- from the next state and what the part brings
   from-both : (st : State) (l : step.Late) → gather (stateOf self) c p ≡ st → lateOf (stateOf self) c p ≡ l
-      → receivedFrom st (step.fields c p rest l) ≡ taken (stateOf self) [] (streamFields f)
+      → receivedFrom st (step.fields c p rest l) ≡ taken (stateOf self) [] (seenStream f)
   unfolding next answer
   from-both st l e q = ap₂ (λ (s : State) (k : step.Late). receivedFrom s (step.fields c p rest k)) (sym e) (sym q)
 
-  pub part-first : (parts : List ℕ) → c ≡ 0 → parts ≡ padded p → streamed Nothing noHeader (Gathering 1) parts ≡ taken (stateOf self) [] (streamFields f)
+  pub part-first : (parts : List ℕ) → c ≡ 0 → parts ≡ padded p → streamed Nothing noHeader (Gathering 1) parts ≡ taken (stateOf self) [] (seenStream f)
   part-first parts e q =
       let n : eqb c 5 ≡ false = ne-eqb c 5 (omega arith) in
       ap (streamed Nothing noHeader (Gathering 1)) q ∙ from-both (gathering 1 p) step.nothing (rw (eq-eqb c 0 e)) (rw n)
 
   module _ (k : ℕ) (is : k ≡ gathered (self .phase)) (z : c ≡ 0 → ⊥) where
-    pub part-other : (c ≡ k → ⊥) → streamed Nothing noHeader Idle noHeader ≡ taken (stateOf self) [] (streamFields f)
+    pub part-other : (c ≡ k → ⊥) → streamed Nothing noHeader Idle noHeader ≡ taken (stateOf self) [] (seenStream f)
     part-other h =
         let y : eqb c (step.count (stateOf self)) ≡ false = rw (gathered-is, ← is) (ne-eqb c k h) in
         from-both idle step.nothing (rw (ne-eqb c 0 z, y)) (go (eqb c 5) (eqb (step.count (stateOf self)) 5) refl refl)
@@ -115,7 +115,7 @@ module _ (self : Receiver) (f : StreamFrame) where
       is-count : step.count (stateOf self) ≡ c
       is-count = gathered-is (self .phase) (self .parts) ∙ sym (q ∙ is)
 
-      pub part-more : (c ≡ 5 → ⊥) → streamed Nothing noHeader (Gathering (c + 1)) parts ≡ taken (stateOf self) [] (streamFields f)
+      pub part-more : (c ≡ 5 → ⊥) → streamed Nothing noHeader (Gathering (c + 1)) parts ≡ taken (stateOf self) [] (seenStream f)
       part-more h =
           let y : eqb c 5 ≡ false = ne-eqb c 5 h in
           ap₂ (λ (n : ℕ) (b : List ℕ). streamed Nothing noHeader (Gathering n) b) (add-one c) made
@@ -131,8 +131,8 @@ module _ (self : Receiver) (f : StreamFrame) where
         brings : lateOf (stateOf self) c p ≡ whole parts
         brings = rw (is-parts, is-count, eq-eqb c 5 five, six)
 
-        pub part-spoiled : (sum ≡ 0 → ⊥) → streamed Spoiled noHeader Idle noHeader ≡ taken (stateOf self) [] (streamFields f)
+        pub part-spoiled : (sum ≡ 0 → ⊥) → streamed Spoiled noHeader Idle noHeader ≡ taken (stateOf self) [] (seenStream f)
         part-spoiled h = from-both idle step.spoiled stops (brings ∙ rw (ne-eqb (crc parts) 0 (λ e. h (crc-is ∙ e))))
 
-        pub part-last : sum ≡ 0 → streamed Header parts Idle noHeader ≡ taken (stateOf self) [] (streamFields f)
+        pub part-last : sum ≡ 0 → streamed Header parts Idle noHeader ≡ taken (stateOf self) [] (seenStream f)
         part-last h = from-both idle (step.late parts) stops (brings ∙ rw (eq-eqb (crc parts) 0 (sym crc-is ∙ h)))

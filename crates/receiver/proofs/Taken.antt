@@ -28,7 +28,7 @@ use Rattle.automaton.specs.Step.{State, idle, inPacket, header, refused, next, 
 use Rattle.receiver.specs.declared.Phase.{Phase}
 use Rattle.receiver.specs.declared.Phase.the-variants.{Idle, Packet, Gathering}
 use Rattle.receiver.specs.declared.Received.{Received}
-use Rattle.receiver.specs.See.{headerBy, headerSeen, streamFields, streamBy, streamSeen, counted, packetSeen}
+use Rattle.receiver.specs.See.{headerBy, headerSeen, seenStream, streamBy, streamSeen, counted, packetSeen}
 use Rattle.receiver.specs.Receiver.{meaning, within, receivedFrom, taken}
 use Rattle.receiver.proofs.Phase as phase
 
@@ -74,7 +74,7 @@ module _ (st : State) (m : List ℕ) where
 -- ---- a stream slot
 
 module _ (r : StreamRead) where
-  pub stream-good : r .answer ≡ Done → streamSeen r ≡ streamFields (r .frame)
+  pub stream-good : r .answer ≡ Done → streamSeen r ≡ seenStream (r .frame)
   stream-good e = rw e
 
   pub stream-refused : (why : Refusal) → r .answer ≡ Refused why → streamSeen r ≡ unread why

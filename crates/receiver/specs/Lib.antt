@@ -1,3 +1,4 @@
 pub mod See
 pub mod Receiver
+pub mod Numbers
 pub mod Runs

@@ -37,7 +37,7 @@ within Idle = true
 within (Packet n) = leb n 32
 within (Gathering k) = leb k 5
 
--- the receiver in a state: zeros where no part is gathered
+-- thirty bytes of parts: zeros where none is gathered
 abbrev pub padded : List ℕ → List ℕ
 padded q = q ++ replicate (30 - length q) 0
 
@@ -46,6 +46,7 @@ phaseFor idle = Idle
 phaseFor (inPacket n) = Packet n
 phaseFor (gathering k q) = Gathering k
 
+-- the receiver in a state
 abbrev pub receiverFor : State → Receiver
 receiverFor s = record { phase = phaseFor s; parts = padded (step.parts s) }
 
@@ -70,7 +71,6 @@ answerFor (step.fields c p f l) = answered.Stream (lateFor l)
 answerFor step.ended = answered.Ended
 answerFor (step.refused why) = answered.Refused why
 
--- the header that an answer carries, or 30 zeros
 abbrev pub noHeader : List ℕ
 noHeader = replicate 30 0
 
@@ -79,6 +79,7 @@ lateHeader step.nothing = noHeader
 lateHeader (step.late h) = h
 lateHeader step.spoiled = noHeader
 
+-- the header that an answer carries, or 30 zeros
 abbrev pub headerFor : step.Answer → List ℕ
 headerFor (step.header h) = h
 headerFor (step.stored k) = noHeader
@@ -87,10 +88,10 @@ headerFor (step.fields c p f l) = lateHeader l
 headerFor step.ended = noHeader
 headerFor (step.refused why) = noHeader
 
--- the stream frame that an answer carries, or zeros
 abbrev pub noStream : StreamFrame
 noStream = record { «lich_idx» = 0; «lich_part» = replicate 5 0; «frame_number» = 0; «end_of_stream» = false; «stream_data» = replicate 16 0 }
 
+-- the stream frame that an answer carries, or zeros
 abbrev pub streamFor : step.Answer → StreamFrame
 streamFor (step.header h) = noStream
 streamFor (step.stored k) = noStream

@@ -65,7 +65,7 @@ heardBy h x = hearing (receivedOf (h .receiver) x (h .memory)) (memoryOf (h .rec
 abbrev pub heard : List ℕ → Fed → List ℕ → Heard
 heard m past x = heardBy (after m past) x
 
--- what the slots said: those refused with 1 count as no slot
+-- what the slots said, packet memory having 825 bytes: those of other lengths than 48, refused with 1, count as no slot
 unfoldable pub seenOf : Fed → Slots
 seenOf start = seen.start
 seenOf (past ▹ x) = cond (eqb (length x) 48) (seenOf past ▸ see x) (seenOf past)

@@ -26,12 +26,12 @@ headerBy (Refused why) h = unread why
 abbrev pub headerSeen : LsfRead → Seen
 headerSeen r = headerBy (r .answer) (r .frame .bytes)
 
-abbrev pub streamFields : StreamFrame → Seen
-streamFields f =
+abbrev pub seenStream : StreamFrame → Seen
+seenStream f =
     stream (f .«lich_idx») (f .«lich_part») (record { number = f .«frame_number»; closing = f .«end_of_stream»; content = f .«stream_data» })
 
 abbrev pub streamBy : Verdict → StreamFrame → Seen
-streamBy Done f = streamFields f
+streamBy Done f = seenStream f
 streamBy (Refused why) f = unread why
 
 abbrev pub streamSeen : StreamRead → Seen

@@ -7,7 +7,7 @@ ghost use mathlib.Core.Bool.{true};
 ghost use Rattle.automaton.specs.Seen.{head, piece, final};
 ghost use Rattle.automaton.specs.Step.{put, idle, inPacket, header, refused, kept};
 ghost use Rattle.decode.specs.Bodies.{lsfReadOf, streamReadOf, packetReadOf};
-ghost use Rattle.receiver.specs.See.{headerSeen, streamFields, streamSeen, packetSeen};
+ghost use Rattle.receiver.specs.See.{headerSeen, seenStream, streamSeen, packetSeen};
 ghost use Rattle.receiver.specs.Receiver.{stateOf, within, gathered, padded, noStream, receiverFor, receivedFrom, unchanged, taken, receivedOf, memoryOf};
 use protocol::LsfFrame;
 use protocol::Mode;
@@ -242,7 +242,7 @@ impl Receiver {
     // A stream frame: counter 0 starts gathering, counter k adds a part, any other stops it.
     fn stream_step(self, frame: StreamFrame) -> Received
         requires { ⌜ within (self .phase) ≡ true ⌝ }
-        ensures { λ r. ⌜ r ≡ taken (stateOf self) [] (streamFields frame) ⌝ }
+        ensures { λ r. ⌜ r ≡ taken (stateOf self) [] (seenStream frame) ⌝ }
     {
         let phase = self.phase;
         let old = self.parts;

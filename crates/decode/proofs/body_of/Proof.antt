@@ -2,8 +2,7 @@
 use mathlib.Core.Path.{ap}
 use lib.ListN.{length}
 use borrow.Author.Tests.{eq-eqb, ne-eqb}
-use Rattle.encode.specs.Bodies.{written}
-use Rattle.decode.specs.Symbols.{bodyReadOf}
+use Rattle.decode.specs.Symbols.{bodyRead, bodyReadOf}
 use borrow.Author.Needs.{needs}
 use Rattle.decode.proofs.body_of.Statement.{statement}
 use Rattle.decode.proofs.body_of.Tie as tie
@@ -20,7 +19,7 @@ body-from-requires c κs = search needs
 
 returns-2 : tie.Need-returns-2
 unfolding bodyReadOf
-returns-2 c = simp (eq-eqb (length (c .before .before .before .args .symbols .now)) 192 (c .before .if1 .left)) (ap written (c .body-from .ensures))
+returns-2 c = simp (eq-eqb (length (c .before .before .before .args .symbols .now)) 192 (c .before .if1 .left)) (ap bodyRead (c .body-from .ensures))
 
 pub body-of-spec : {M : Type 1} → statement M
 body-of-spec = tie.close (tie.spec no-body-requires returns body-from-requires returns-2)

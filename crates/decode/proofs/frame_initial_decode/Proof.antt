@@ -2,9 +2,8 @@
 use mathlib.Core.Path.{ap, _∙_}
 use lib.ListN.{length}
 use borrow.Author.Tests.{eq-eqb, ne-eqb}
-use Rattle.encode.specs.Bodies.{written}
 use Rattle.decode.specs.Bodies.{unmasked}
-use Rattle.decode.specs.Symbols.{initialOf}
+use Rattle.decode.specs.Symbols.{bodyRead, initialOf}
 use borrow.Author.Needs.{needs}
 use Rattle.decode.proofs.frame_initial_decode.Statement.{statement}
 use Rattle.decode.proofs.frame_initial_decode.Tie as tie
@@ -30,7 +29,7 @@ unfolding initialOf
 returns-2 c =
     let b = c .before .before in
     simp (eq-eqb (length (b .before .before .before .args .frame .now)) 192 (b .before .if1 .left))
-    (ap written (c .unmask .ensures ∙ ap unmasked (b .body-from .ensures)))
+    (ap bodyRead (c .unmask .ensures ∙ ap unmasked (b .body-from .ensures)))
 
 pub frame-initial-decode-spec : {M : Type 1} → statement M
 frame-initial-decode-spec =

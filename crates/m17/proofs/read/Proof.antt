@@ -4,12 +4,12 @@ use borrow.Author.Needs.{needs}
 use borrow.Author.Tests.{lt-ltb, le-ltb}
 use Rattle.fec.specs.declared.Kind.{Kind}
 use Rattle.fec.specs.Kinds.{decodedOf}
-use Rattle.m17.specs.Fec.{readOf}
+use Rattle.m17.specs.Fec.{kindReadOf}
 use Rattle.m17.proofs.read.Statement.{statement}
 use Rattle.m17.proofs.read.Tie as tie
 
 returns : tie.Need-returns
-unfolding readOf
+unfolding kindReadOf
 returns c = simp (lt-ltb 2 (c .before .before .args .kind) (c .if1 .taken))
 
 kind-for-requires : tie.Need-kind-for-requires
@@ -19,7 +19,7 @@ decode-requires : tie.Need-decode-requires
 decode-requires c κs = search needs
 
 returns-2 : tie.Need-returns-2
-unfolding readOf
+unfolding kindReadOf
 returns-2 c =
     let a = c .before .before .before .before .args in
     simp (le-ltb 2 (a .kind) (c .before .before .if1 .left))

@@ -4,7 +4,7 @@ use lib.ListN.{length}
 use borrow.Author.Tests.{eq-eqb, ne-eqb, lt-ltb, le-ltb}
 use Rattle.address.specs.declared.Address.{Address}
 use Rattle.address.specs.Address.{encodedOf}
-use Rattle.m17.specs.Kinds.{addressWrittenOf}
+use Rattle.m17.specs.Addresses.{addressWrittenOf}
 use borrow.Author.Needs.{needs}
 use Rattle.m17.proofs.written_address.Statement.{statement}
 use Rattle.m17.proofs.written_address.Tie as tie

@@ -3,7 +3,7 @@ use mathlib.Core.Path.{ap, _∙_}
 use lib.ListN.{length}
 use borrow.Author.Tests.{eq-eqb, ne-eqb}
 use Rattle.protocol.specs.Lich.{setOf}
-use Rattle.m17.specs.Gathered.{gathered}
+use Rattle.m17.specs.Gathered.{collectionFor}
 use Rattle.m17.proofs.Parts.{part-set}
 use borrow.Author.Needs.{needs}
 use Rattle.m17.proofs.gathered.m17_set_segment.Statement.{statement}
@@ -49,7 +49,7 @@ returns-3 c =
     let g = n .before .before .before .before in
     let a = g .before .before .before .before .before .args in
     part-set (a .parts .now) (a .set .now) (g .before .if1 .left) (g .if2 .left) (n .set-segment .result)
-    (setOf (a .counter) (a .part .now) (gathered (a .parts .now) (a .set .now))) (c .before .before .before .before .before .before .before .before .before .flag-bytes .result) _ _ _ _
+    (setOf (a .counter) (a .part .now) (collectionFor (a .parts .now) (a .set .now))) (c .before .before .before .before .before .before .before .before .before .flag-bytes .result) _ _ _ _
     (n .set-segment .ensures ∙ ap (setOf (a .counter) (a .part .now)) (n .before .collection .ensures)) (c .before .before .before .before .before .before .before .before .before .flag-bytes .ensures)
     (c .before .before .before .before .before .before .give .ensures) (c .before .before .give-parts .ensures)
 

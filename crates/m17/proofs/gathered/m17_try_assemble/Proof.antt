@@ -3,7 +3,7 @@ use mathlib.Core.Path.{ap, _∙_}
 use lib.ListN.{length}
 use borrow.Author.Tests.{eq-eqb, ne-eqb}
 use Rattle.protocol.specs.Lich.{assembledOf}
-use Rattle.m17.specs.Gathered.{gathered}
+use Rattle.m17.specs.Gathered.{collectionFor}
 use Rattle.m17.proofs.Parts.{assembled, not-yet}
 use borrow.Author.Needs.{needs}
 use Rattle.m17.proofs.gathered.m17_try_assemble.Statement.{statement}
@@ -54,7 +54,7 @@ returns-4 c =
     let g = n .before .before in
     let a = g .before .before .before .before .before .before .args in
     assembled (a .parts .now) (a .set .now) (g .before .before .if1 .left) (g .before .if2 .left) (a .out .now) (g .if3 .left) (a .assembled .now) (n .try-assemble .result)
-    (assembledOf (gathered (a .parts .now) (a .set .now))) (n .try-assemble .ensures ∙ ap assembledOf (n .before .collection .ensures)) (c .before .before .before .before .before .before .enum-told .given .1)
+    (assembledOf (collectionFor (a .parts .now) (a .set .now))) (n .try-assemble .ensures ∙ ap assembledOf (n .before .collection .ensures)) (c .before .before .before .before .before .before .enum-told .given .1)
     (search needs) _ _ (c .before .before .give .ensures)
 
 returns-5 : tie.Need-returns-5
@@ -63,7 +63,7 @@ returns-5 c =
     let g = n .before .before in
     let a = g .before .before .before .before .before .before .args in
     not-yet (a .parts .now) (a .set .now) (g .before .before .if1 .left) (g .before .if2 .left) (a .out .now) (g .if3 .left) (a .assembled .now) (n .try-assemble .result)
-    (assembledOf (gathered (a .parts .now) (a .set .now))) (n .try-assemble .ensures ∙ ap assembledOf (n .before .collection .ensures)) (c .enum-told2 .given .1)
+    (assembledOf (collectionFor (a .parts .now) (a .set .now))) (n .try-assemble .ensures ∙ ap assembledOf (n .before .collection .ensures)) (c .enum-told2 .given .1)
 
 pub m17-try-assemble-spec : {M : Type 1} → statement M
 m17-try-assemble-spec =

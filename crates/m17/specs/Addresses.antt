@@ -10,11 +10,11 @@ use Rattle.address.specs.declared.Address.the-variants.{Invalid, Callsign, Rese
 use Rattle.address.specs.declared.Written.{Written}
 use Rattle.address.specs.Address.{encodedOf, unwritten}
 
-abbrev pub kindOf : Address → ℕ
-kindOf Invalid = 0
-kindOf Callsign = 1
-kindOf (Reserved v) = 2
-kindOf Broadcast = 3
+abbrev pub addressKind : Address → ℕ
+addressKind Invalid = 0
+addressKind Callsign = 1
+addressKind (Reserved v) = 2
+addressKind Broadcast = 3
 
 -- the value of a reserved address, else 0
 abbrev pub reservedOf : Address → ℕ

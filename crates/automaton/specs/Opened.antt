@@ -1,0 +1,29 @@
+-- What the slots just gone were, by the state that they led to. Assumes nothing.
+use mathlib.Core.Path.{_≡_}
+use mathlib.Core.Bool.{false}
+use mathlib.Core.List.{List, [], _++_}
+use Prim.Native.Nat.{ℕ, zero, suc, _≤_}
+use lib.ListN.{length}
+use Rattle.automaton.specs.Seen.{Fields, head, stream, isStream}
+use Rattle.automaton.specs.Step.{State, idle, inPacket, gathering}
+use Rattle.automaton.specs.Runs.{Slots, _▸_, _▸▸_, numbered}
+
+-- a packet header and pieces 0 to n - 1
+pub record Pieces (n : ℕ) (past : Slots) : Type 0 where
+  pub before : Slots
+  pub h : List ℕ
+  pub bs : List (List ℕ)
+  pub slots : past ≡ before ▸ head h ▸▸ numbered 0 bs
+  pub packets : isStream h ≡ false
+  pub many : length bs ≡ n
+
+-- stream slots counted 0 to k - 1, q their parts joined
+abbrev pub Counted : ℕ → List ℕ → Slots → Type 0
+Counted zero q past = q ≡ []
+Counted (suc k) q past =
+    (before : Slots) × (p : List ℕ) × (f : Fields) × (r : List ℕ) × (past ≡ before ▸ stream k p f) × (q ≡ r ++ p) × Counted k r before
+
+abbrev pub Opened : State → Slots → Type 0
+Opened idle past = Unit {0}
+Opened (inPacket n) past = Pieces n past
+Opened (gathering k q) past = (1 ≤ k) × (k ≤ 5) × Counted k q past

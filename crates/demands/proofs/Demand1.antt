@@ -1,0 +1,376 @@
+-- Demand 1 holds: the facts of each crate, and the receiver's numbers. Assumes nothing.
+use mathlib.Core.Path.{_≡_, refl, sym, ap, _∙_, subst}
+use mathlib.Core.Logic.{inl, inr}
+use mathlib.Core.Bool.{Bool, true, false, cond, _&&_}
+use mathlib.Core.List.{List, [], _∷_}
+use mathlib.Core.Option.{Option, some, none}
+use Prim.Native.Nat.{ℕ, _+_, _*_}
+use native.Mathlib.Decide.{ℕ-discrete}
+use native.Mathlib.Omega.{arith}
+use lib.Dec.{eqb, ltb}
+use lib.Ieee.{Float}
+use lib.ListN.{length, take, drop, length-drop}
+use borrow.Author.Tests.{eq-eqb, ne-eqb, eqb-true, lt-ltb, le-ltb}
+use Rattle.laws.specs.Value.{valueOf}
+use Rattle.refusal.specs.Number.{numberOf, saidOf}
+use Rattle.refusal.specs.declared.Refusal.{Refusal}
+use Rattle.refusal.specs.declared.Refusal.the-variants.{WrongLength, OutOfRange, TooFar, BadGolay, BadHeader, BadAddress, UnknownSync, OutOfTurn, BadFinal, TooShort, BadPacket, BadState, BadSample, Ended, Full}
+use Rattle.refusal.specs.declared.Verdict.{Verdict}
+use Rattle.refusal.specs.declared.Verdict.the-variants.{Done, Refused}
+use Rattle.refusal.proofs.Different.{different}
+use Rattle.bits.specs.Bits.{bitsOf}
+use Rattle.bits.specs.Places as bits
+use Rattle.bits.proofs.Getting as getting
+use Rattle.bits.proofs.Setting as setting
+use Rattle.interleave.proofs.Twice as interleaving
+use Rattle.address.proofs.Exactly as addresses
+use Rattle.golay.proofs.Only as golay
+use Rattle.crc.specs.Crc.{crc}
+use Rattle.fec.specs.declared.Kind.{Kind}
+use Rattle.fec.specs.declared.Coded.{Coded}
+use Rattle.fec.specs.Kinds as fec
+use Rattle.fec.specs.Nearest.{readOf}
+use Rattle.fec.proofs.Bodies.{encoded-long, encoded-short, decoded-long, decoded-short}
+use Rattle.fec.proofs.When as when
+use Rattle.protocol.specs.declared.LichCollection.{LichCollection}
+use Rattle.protocol.specs.declared.StreamFrame.{StreamFrame}
+use Rattle.protocol.specs.declared.PacketFrameCounter.{PacketFrameCounter}
+use Rattle.protocol.specs.declared.PacketFrameCounter.the-variants.{Frame, FinalFrame}
+use Rattle.protocol.specs.Lich.{partSaid, withPart, collected, setOf}
+use Rattle.protocol.proofs.Exactly as headers
+use Rattle.encode.proofs.Exactly as writing
+use Rattle.decode.specs.Bodies.{lsfReadOf, noLsf, streamReadOf, noStream, packetReadOf, noPacket}
+use Rattle.decode.specs.Symbols.{bodyFrom, bodyReadOf, initialOf, lsfParsedOf, streamParsedOf, packetParsedOf}
+use Rattle.decode.specs.When.{OneOf}
+use Rattle.decode.proofs.LichWhen.{lich-when}
+use Rattle.decode.proofs.When as reading
+use Rattle.automaton.specs.Seen.{Seen, head, piece, final, stream, end, unread}
+use Rattle.automaton.specs.Step as step
+use Rattle.automaton.specs.Demand3.{ByAnswer}
+use Rattle.automaton.proofs.Cases.{never, by-test}
+use Rattle.automaton.proofs.ByAnswer.{by-answer}
+use Rattle.receiver.specs.declared.Receiver.{Receiver}
+use Rattle.receiver.specs.declared.Answer.the-variants as Answers
+use Rattle.receiver.specs.declared.Received.{Received}
+use Rattle.receiver.specs.See.{headerBy, streamBy, packetBy, see}
+use Rattle.receiver.specs.Receiver.{stateOf, within, fits, unchanged, taken, receivedOf, memoryOf}
+use Rattle.demands.specs.Demand1.{ByLength, Demand1}
+use Rattle.demands.proofs.EachSlot.{refused-only, refused-1, refused-12}
+
+-- ---- leaves
+
+set-said : (s : List ℕ) (i : ℕ) (b : Bool) → bits.within s i ≡ b → saidOf (bits.setOf s i) ≡ cond b 0 2
+set-said s i true e = rw e
+set-said s i false e = rw e
+
+coded : (k : Kind) (d : List ℕ) → ByLength (length d) (fec.dataBytes k) (saidOf (fec.encodedOf k d .answer))
+coded k d = (λ n. ap (λ (c : Coded). saidOf (c .answer)) (encoded-short k d n), λ e. ap (λ (c : Coded). saidOf (c .answer)) (encoded-long k d e))
+
+part-untouched : (c : ℕ) (part : List ℕ) (l : LichCollection) (why : Refusal) → setOf c part l .answer ≡ Refused why → setOf c part l .collection ≡ l
+part-untouched c part l why = by (partSaid c part)
+  where
+    by : (v : Verdict) → collected v l (withPart c part l) .answer ≡ Refused why → collected v l (withPart c part l) .collection ≡ l
+    by Done e = never (cc)
+    by (Refused w) e = refl
+
+-- ---- symbols
+
+module _ (xs : List Float) where
+  body-parsed : ByLength (length xs) 192 (saidOf (bodyReadOf xs .answer))
+  unfolding bodyReadOf
+  body-parsed = (λ n. rw (ne-eqb (length xs) 192 n), λ e. rw (eq-eqb (length xs) 192 e))
+
+  body-initial : ByLength (length xs) 192 (saidOf (initialOf xs .answer))
+  unfolding initialOf
+  body-initial = (λ n. rw (ne-eqb (length xs) 192 n), λ e. rw (eq-eqb (length xs) 192 e))
+
+  header-parsed-1 : (length xs ≡ 192 → ⊥) → lsfParsedOf xs ≡ noLsf WrongLength
+  unfolding lsfParsedOf
+  header-parsed-1 n = rw (ne-eqb (length xs) 192 n)
+
+  header-parsed : length xs ≡ 192 → lsfParsedOf xs ≡ lsfReadOf (bodyFrom xs)
+  unfolding lsfParsedOf
+  header-parsed e = rw (eq-eqb (length xs) 192 e)
+
+  stream-parsed-1 : (length xs ≡ 192 → ⊥) → streamParsedOf xs ≡ noStream WrongLength
+  unfolding streamParsedOf
+  stream-parsed-1 n = rw (ne-eqb (length xs) 192 n)
+
+  stream-parsed : length xs ≡ 192 → streamParsedOf xs ≡ streamReadOf (bodyFrom xs)
+  unfolding streamParsedOf
+  stream-parsed e = rw (eq-eqb (length xs) 192 e)
+
+  packet-parsed-1 : (length xs ≡ 192 → ⊥) → packetParsedOf xs ≡ noPacket WrongLength
+  unfolding packetParsedOf
+  packet-parsed-1 n = rw (ne-eqb (length xs) 192 n)
+
+  packet-parsed : length xs ≡ 192 → packetParsedOf xs ≡ packetReadOf (bodyFrom xs)
+  unfolding packetParsedOf
+  packet-parsed e = rw (eq-eqb (length xs) 192 e)
+
+-- ---- the receiver's numbers
+
+-- those that a slot by itself is refused with, and those of a packet slot
+abbrev OfSlot : ℕ → Type 0
+OfSlot n = OneOf n (3 ∷ 4 ∷ 5 ∷ 7 ∷ 8 ∷ 9 ∷ 10 ∷ 11 ∷ [])
+
+some-number : (w : Refusal) → numberOf w ≡ 0 → ⊥
+some-number WrongLength e = omega arith
+some-number OutOfRange e = omega arith
+some-number TooFar e = omega arith
+some-number BadGolay e = omega arith
+some-number BadHeader e = omega arith
+some-number BadAddress e = omega arith
+some-number UnknownSync e = omega arith
+some-number OutOfTurn e = omega arith
+some-number BadFinal e = omega arith
+some-number TooShort e = omega arith
+some-number BadPacket e = omega arith
+some-number BadState e = omega arith
+some-number BadSample e = omega arith
+some-number Ended e = omega arith
+some-number Full e = omega arith
+
+-- a body's refusal: 3 or 4, for a body of 46 bytes
+body-number : (v : Verdict) (w : Refusal) → v ≡ Refused w → (saidOf v ≡ 1 → ⊥) → OneOf (saidOf v) (0 ∷ 1 ∷ 3 ∷ 4 ∷ []) → OfSlot (numberOf w)
+body-number v w e long (inl z) = absurd (some-number w (sym (ap saidOf e) ∙ z))
+body-number v w e long (inr (inl z)) = absurd (long z)
+body-number v w e long (inr (inr (inl z))) = inl (sym (ap saidOf e) ∙ z)
+body-number v w e long (inr (inr (inr (inl z)))) = inr (inl (sym (ap saidOf e) ∙ z))
+
+three-is : (n : ℕ) → OneOf n (0 ∷ 1 ∷ 3 ∷ []) → OneOf n (0 ∷ 1 ∷ 3 ∷ 4 ∷ [])
+three-is n (inl z) = inl z
+three-is n (inr (inl z)) = inr (inl z)
+three-is n (inr (inr (inl z))) = inr (inr (inl z))
+
+header-number : (v : Verdict) (h : List ℕ) (w : Refusal) → (saidOf v ≡ 1 → ⊥) → OneOf (saidOf v) (0 ∷ 1 ∷ 3 ∷ []) → headerBy v h ≡ unread w → OfSlot (numberOf w)
+header-number Done h w long only e = by e
+  where
+    by : cond (eqb (crc h) 0) (head h) (unread BadHeader) ≡ unread w → OfSlot (numberOf w)
+    by =
+        by-test (λ (s : Seen). s ≡ unread w → OfSlot (numberOf w)) (eqb (crc h) 0) (λ z e. never (cc))
+        (λ z e. let q : BadHeader ≡ w = cc in inr (inr (inl (sym (ap numberOf q)))))
+header-number (Refused why) h w long only e =
+    let q : why ≡ w = cc in body-number (Refused why) w (ap Refused q) long (three-is (numberOf why) only)
+
+stream-number : (v : Verdict) (f : StreamFrame) (w : Refusal) → (saidOf v ≡ 1 → ⊥) → OneOf (saidOf v) (0 ∷ 1 ∷ 3 ∷ 4 ∷ []) → streamBy v f ≡ unread w → OfSlot (numberOf w)
+stream-number Done f w long only e = never (cc)
+stream-number (Refused why) f w long only e = let q : why ≡ w = cc in body-number (Refused why) w (ap Refused q) long only
+
+packet-number : (v : Verdict) (c : PacketFrameCounter) (b : List ℕ) (w : Refusal) → (saidOf v ≡ 1 → ⊥) → OneOf (saidOf v) (0 ∷ 1 ∷ 3 ∷ [])
+    → packetBy v c b ≡ unread w → OfSlot (numberOf w)
+packet-number Done (Frame k) b w long only e = never (cc)
+packet-number Done (FinalFrame len) b w long only e = never (cc)
+packet-number (Refused why) c b w long only e = let q : why ≡ w = cc in body-number (Refused why) w (ap Refused q) long (three-is (numberOf why) only)
+
+-- what 48 bytes are refused with by themselves
+unread-number : (x : List ℕ) (w : Refusal) → length x ≡ 48 → see x ≡ unread w → OfSlot (numberOf w)
+unfolding see
+unread-number x w long =
+    by-test Here (eqb sync 0x55F7)
+    (λ e. header-number (lsfReadOf body .answer) (lsfReadOf body .frame .bytes) w (λ z. reading.lsf-when body .wrong z left) (reading.lsf-when body .only))
+    (λ e. by-test Here (eqb sync 0xFF5D)
+    (λ f. stream-number (streamReadOf body .answer) (streamReadOf body .frame) w (λ z. reading.stream-when body .wrong z left) (reading.stream-when body .only))
+    (λ f. by-test Here (eqb sync 0x75FF)
+    (λ g. packet-number (packetReadOf body .answer) (packetReadOf body .frame .counter) (packetReadOf body .frame .payload) w
+    (λ z. reading.packet-when body .wrong z left) (reading.packet-when body .only))
+    (λ g. by-test Here (eqb sync 0x555D) (λ i q. never (cc)) (λ i q. let r : UnknownSync ≡ w = cc in inr (inr (inr (inl (sym (ap numberOf r)))))))))
+  where
+    sync : ℕ
+    sync = valueOf (take 2 x)
+
+    body : List ℕ
+    body = drop 2 x
+
+    left : length (drop 2 x) ≡ 46
+    left = length-drop 2 x ∙ omega arith
+
+    Here : Seen → Type 0
+    Here s = s ≡ unread w → OfSlot (numberOf w)
+
+-- a final piece
+verdict-number : (n len sum : ℕ) (w : Refusal) → step.verdict n len sum ≡ Refused w → OfSlot (numberOf w)
+unfolding step.verdict
+verdict-number n len sum w =
+    by-test Here (eqb len 0) (λ a e. nine e)
+    (λ a. by-test Here (ltb 25 len) (λ b e. nine e)
+    (λ b. by-test Here (ltb (25 * n + len) 3) (λ c e. ten e) (λ c. by-test Here (eqb sum 0) (λ d e. never (cc)) (λ d e. eleven e))))
+  where
+    Here : Verdict → Type 0
+    Here v = v ≡ Refused w → OfSlot (numberOf w)
+
+    nine : Refused BadFinal ≡ Refused w → OfSlot (numberOf w)
+    nine e = let q : BadFinal ≡ w = cc in inr (inr (inr (inr (inr (inl (sym (ap numberOf q)))))))
+
+    ten : Refused TooShort ≡ Refused w → OfSlot (numberOf w)
+    ten e = let q : TooShort ≡ w = cc in inr (inr (inr (inr (inr (inr (inl (sym (ap numberOf q))))))))
+
+    eleven : Refused BadPacket ≡ Refused w → OfSlot (numberOf w)
+    eleven e = let q : BadPacket ≡ w = cc in inr (inr (inr (inr (inr (inr (inr (inl (sym (ap numberOf q)))))))))
+
+out-of-turn : (w : Refusal) → OutOfTurn ≡ w → OfSlot (numberOf w)
+out-of-turn w q = inr (inr (inr (inr (inl (sym (ap numberOf q))))))
+
+judge-number : (st : step.State) (m : List ℕ) (len : ℕ) (b : List ℕ) (w : Refusal) → step.judge st m len b ≡ Refused w → OfSlot (numberOf w)
+judge-number step.idle m len b w e = out-of-turn w cc
+judge-number (step.inPacket n) m len b w e = verdict-number n len _ w e
+judge-number (step.gathering k q) m len b w e = out-of-turn w cc
+
+told-only : (total : ℕ) (v : Verdict) (w : Refusal) → step.told total v ≡ step.refused w → v ≡ Refused w
+told-only total Done w e = never (cc)
+told-only total (Refused why) w e = let q : why ≡ w = cc in ap Refused q
+
+-- what the automaton refuses a slot with
+refused-number : (st : step.State) (m : List ℕ) (s : Seen) (w : Refusal) → ((v : Refusal) → s ≡ unread v → OfSlot (numberOf v))
+    → step.answer st m s ≡ step.refused w → OfSlot (numberOf w)
+unfolding step.answer
+refused-number st m (head h) w by e = never (cc)
+refused-number st m (piece k b) w by e = turn e
+  where
+    turn : cond (step.expects st k) (step.stored k) (step.refused OutOfTurn) ≡ step.refused w → OfSlot (numberOf w)
+    turn = by-test (λ (a : step.Answer). a ≡ step.refused w → OfSlot (numberOf w)) (step.expects st k) (λ t q. never (cc)) (λ t q. out-of-turn w cc)
+refused-number st m (final len b) w by e = judge-number st m len b w (told-only _ (step.judge st m len b) w e)
+refused-number st m (stream c p f) w by e = never (cc)
+refused-number st m end w by e = never (cc)
+refused-number st m (unread why) w by e = let q : why ≡ w = cc in by w (ap unread q)
+
+both : (a b : Bool) → (a && b) ≡ true → a ≡ true
+both true b e = refl
+both false b e = never (cc)
+
+module _ (r : Receiver) (x m : List ℕ) where
+  heard : fits x m ≡ true → within (r .phase) ≡ true → receivedOf r x m ≡ taken (stateOf r) m (see x)
+  unfolding receivedOf
+  heard f w = rw (f, w)
+
+  left : fits x m ≡ true → within (r .phase) ≡ true → memoryOf r x m ≡ step.kept (stateOf r) m (see x)
+  unfolding memoryOf
+  left f w = rw (f, w)
+
+  slot-refused : (why : Refusal) → fits x m ≡ true → within (r .phase) ≡ true → receivedOf r x m .answer ≡ Answers.Refused why
+      → step.answer (stateOf r) m (see x) ≡ step.refused why
+  slot-refused why f w e = refused-only (step.answer (stateOf r) m (see x)) why (sym (ap (λ (k : Received). k .answer) (heard f w)) ∙ e)
+
+  receiver-only : (why : Refusal) → fits x m ≡ true → within (r .phase) ≡ true → receivedOf r x m .answer ≡ Answers.Refused why → OfSlot (numberOf why)
+  receiver-only why f w e =
+      let long = eqb-true (length x) 48 (both (eqb (length x) 48) (eqb (length m) 825) f) in
+      refused-number (stateOf r) m (see x) why (λ v q. unread-number x v long q) (slot-refused why f w e)
+
+  -- 1, 12, or what the automaton does
+  cases : (P : Received → List ℕ → Type 0) → (fits x m ≡ false → P (unchanged WrongLength r) m)
+      → (fits x m ≡ true → within (r .phase) ≡ false → P (unchanged BadState r) m)
+      → (fits x m ≡ true → within (r .phase) ≡ true → P (receivedOf r x m) (memoryOf r x m)) → P (receivedOf r x m) (memoryOf r x m)
+  cases P one twelve other = by (fits x m) (within (r .phase)) refl refl
+    where
+      by : (a b : Bool) → fits x m ≡ a → within (r .phase) ≡ b → P (receivedOf r x m) (memoryOf r x m)
+      by false b f w = let k = refused-1 r x m f in rw (k .0, k .1) (one f)
+      by true false f w = let k = refused-12 r x m f w in rw (k .0, k .1) (twelve f w)
+      by true true f w = other f w
+
+  not-of-slot : (why : Refusal) → fits x m ≡ true → within (r .phase) ≡ true → (OfSlot (numberOf why) → ⊥) → receivedOf r x m .answer ≡ Answers.Refused why → ⊥
+  not-of-slot why f w n e = n (receiver-only why f w e)
+
+  receiver-1 : (receivedOf r x m .answer ≡ Answers.Refused WrongLength → fits x m ≡ false) × (fits x m ≡ false → receivedOf r x m .answer ≡ Answers.Refused WrongLength)
+  receiver-1 = (
+    cases (λ k n. k .answer ≡ Answers.Refused WrongLength → fits x m ≡ false) (λ f e. f) (λ f w e. never (cc))
+        (λ f w e. absurd (not-of-slot WrongLength f w one e)),
+    λ f. ap (λ (k : Received). k .answer) (refused-1 r x m f .0),
+  )
+    where
+      one : OfSlot 1 → ⊥
+      one (inl e) = omega arith
+      one (inr (inl e)) = omega arith
+      one (inr (inr (inl e))) = omega arith
+      one (inr (inr (inr (inl e)))) = omega arith
+      one (inr (inr (inr (inr (inl e))))) = omega arith
+      one (inr (inr (inr (inr (inr (inl e)))))) = omega arith
+      one (inr (inr (inr (inr (inr (inr (inl e))))))) = omega arith
+      one (inr (inr (inr (inr (inr (inr (inr (inl e)))))))) = omega arith
+
+  receiver-12 : (receivedOf r x m .answer ≡ Answers.Refused BadState → (fits x m ≡ true) × (within (r .phase) ≡ false))
+      × ((fits x m ≡ true) × (within (r .phase) ≡ false) → receivedOf r x m .answer ≡ Answers.Refused BadState)
+  receiver-12 = (
+    cases (λ k n. k .answer ≡ Answers.Refused BadState → (fits x m ≡ true) × (within (r .phase) ≡ false)) (λ f e. never (cc)) (λ f w e. (f, w))
+        (λ f w e. absurd (not-of-slot BadState f w twelve e)),
+    λ k. ap (λ (q : Received). q .answer) (refused-12 r x m (k .0) (k .1) .0),
+  )
+    where
+      twelve : OfSlot 12 → ⊥
+      twelve (inl e) = omega arith
+      twelve (inr (inl e)) = omega arith
+      twelve (inr (inr (inl e))) = omega arith
+      twelve (inr (inr (inr (inl e)))) = omega arith
+      twelve (inr (inr (inr (inr (inl e))))) = omega arith
+      twelve (inr (inr (inr (inr (inr (inl e)))))) = omega arith
+      twelve (inr (inr (inr (inr (inr (inr (inl e))))))) = omega arith
+      twelve (inr (inr (inr (inr (inr (inr (inr (inl e)))))))) = omega arith
+
+  receiver-untouched : (why : Refusal) → receivedOf r x m .answer ≡ Answers.Refused why → memoryOf r x m ≡ m
+  receiver-untouched why =
+      cases (λ k n. k .answer ≡ Answers.Refused why → n ≡ m) (λ f e. refl) (λ f w e. refl)
+      (λ f w e. left f w ∙ subst (ByAnswer (stateOf r) m (see x)) (slot-refused why f w e) (by-answer (stateOf r) m (see x)) .1)
+
+-- ---- the code
+
+uncoded-only : (k : Kind) (rx : List ℕ) → OneOf (saidOf (fec.decodedOf k rx .answer)) (0 ∷ 1 ∷ 3 ∷ [])
+uncoded-only k rx = elim (ℕ-discrete (length rx) (fec.codedBytes k)) [
+  | yes l ↦ rw (decoded-long k rx l) (by (readOf (fec.sendsIn k) (fec.bitsIn k) (fec.limitOf k) (bitsOf rx)))
+  | no n ↦ rw (decoded-short k rx n) (inr (inl refl))
+]
+  where
+    by : (o : Option (List Bool)) → OneOf (saidOf (fec.found o .answer)) (0 ∷ 1 ∷ 3 ∷ [])
+    by (some d) = inl refl
+    by none = inr (inr (inl refl))
+
+pub demand-1 : Demand1
+demand-1 =
+    record {
+      numbers-differ = different;
+      bit-read-2 = getting.refused-when;
+      bit-read = getting.answered-when;
+      bit-set-2 = λ s i h. set-said s i false (le-ltb i (8 * length s) h);
+      bit-set = λ s i h. set-said s i true (lt-ltb i (8 * length s) h);
+      bit-untouched = setting.unchanged;
+      interleave = λ s. (interleaving.refused-when s, interleaving.answered-when s);
+      address-read = addresses.read-exactly;
+      address-written = addresses.written-exactly;
+      golay-read = golay.reads;
+      golay-over = golay.over;
+      golay-written-2 = golay.written-two;
+      golay-written = golay.written-zero;
+      coded = coded;
+      uncoded-1 = when.wrong-length-when;
+      uncoded-3 = when.refused-when;
+      uncoded = when.answered-when;
+      uncoded-only = uncoded-only;
+      header-from = headers.from-exactly;
+      channel-set = headers.channel-exactly;
+      address-set = headers.address-exactly;
+      header-new = headers.new-exactly;
+      part-set = headers.part-exactly;
+      part-untouched = part-untouched;
+      lich-written = writing.lich-exactly;
+      header-written = writing.lsf-exactly;
+      stream-written = writing.stream-exactly;
+      packet-written = writing.packet-exactly;
+      body-sent = writing.body-symbols;
+      header-sent = writing.lsf-symbols;
+      stream-sent = writing.stream-symbols;
+      packet-sent = writing.packet-symbols;
+      lich-read = lich-when;
+      header-read = reading.lsf-when;
+      stream-read = reading.stream-when;
+      packet-read = reading.packet-when;
+      body-parsed = body-parsed;
+      body-initial = body-initial;
+      header-parsed-1 = header-parsed-1;
+      header-parsed = header-parsed;
+      stream-parsed-1 = stream-parsed-1;
+      stream-parsed = stream-parsed;
+      packet-parsed-1 = packet-parsed-1;
+      packet-parsed = packet-parsed;
+      receiver-1 = receiver-1;
+      receiver-12 = receiver-12;
+      receiver-only = receiver-only;
+      receiver-untouched = receiver-untouched;
+    }

@@ -14,6 +14,9 @@
 /* ---- leaves */
 uint8_t m17_get_bit(const uint8_t *bytes, size_t bytes_len, size_t place, uint8_t *out);
 uint8_t m17_set_bit(uint8_t *bytes, size_t bytes_len, size_t place, uint8_t value);
+/* read becomes 1, the bit at the place is written and the place becomes the next; or read becomes 0 ("the end"), and the
+ * bit and the place are left */
+void m17_next_bit(const uint8_t *bytes, size_t bytes_len, size_t *place, uint8_t *read, uint8_t *out);
 uint16_t m17_crc(const uint8_t *input, size_t input_len);
 uint16_t m17_crc_update(uint16_t start, const uint8_t *input, size_t input_len);
 void m17_random_xor(uint8_t *bytes, size_t bytes_len);

@@ -1,3 +1,4 @@
 pub mod Back
 pub mod Setting
 pub mod Getting
+pub mod Reading

@@ -1,11 +1,10 @@
 // Interleaving: bit i of 368 goes to place MAPPING[i].
 ghost use mathlib.Core.Path.{_≡_};
-ghost use mathlib.Core.Bool.{false};
-ghost use lib.ListN.{length, getD};
+ghost use lib.ListN.{length};
 ghost use Rattle.laws.specs.Tabled.{tabled};
-ghost use Rattle.bits.specs.Bits.{bit, bitsOf, bytesOf};
+ghost use Rattle.bits.specs.Bits.{bitsOf, bytesOf};
 ghost use Rattle.interleave.specs.Interleave.{mapped, interleaved, interleavedOf};
-use bits::Bit;
+use bits::NextBit;
 use refusal::Refusal;
 use refusal::Verdict;
 
@@ -393,25 +392,22 @@ pub struct Interleaved {
     pub bytes: [u8; 46],
 }
 
-// The bit at a place, 0 past the bytes.
-fn bit_at(payload: &[u8], place: usize) -> u8
-    ensures { λ r. ⌜ r ≡ bit (getD (bitsOf (now (payload .entry))) place false) ⌝ }
-{
-    match bits::get_bit(payload, place) {
-        Bit::Value(b) => b,
-        Bit::Refused(_) => 0,
-    }
-}
-
-// Each bit is put at its place.
+// Each bit in order is put at its place.
 fn placed_bits(payload: &[u8]) -> [u8; 46]
+    requires { ⌜ length (now payload) ≡ 46 ⌝ }
     ensures { λ r. ⌜ r ≡ bytesOf 46 (interleaved (bitsOf (now (payload .entry)))) ⌝ }
 {
     let places = mapping();
     let mut new = [0u8; 46];
-    for i in 0..368usize {
-        let b = bit_at(payload, i);
-        bits::set_bit(&mut new, places[i], b);
+    let mut at = 0;
+    while at < 368 {
+        let step = bits::next_bit(payload, at);
+        let bit = step.bit;
+        let NextBit::Value(b) = bit else {
+            return new;
+        };
+        bits::set_bit(&mut new, places[at], b);
+        at = step.place;
     }
     new
 }

@@ -1,4 +1,4 @@
--- `interleave::placed_bits` meets its contract: after i turns the first i bits are placed. Assumes nothing.
+-- `interleave::placed_bits` meets its contract: where the reader stands at place at, the bits before it are placed. Assumes nothing.
 use mathlib.Core.Path.{_≡_, refl, sym, ap, ap₂, _∙_}
 use mathlib.Core.Bool.{Bool, false}
 use mathlib.Core.List.{List}
@@ -10,7 +10,10 @@ use borrow.Author.Needs.{needs}
 use Rattle.laws.proofs.Values.{tabled-at}
 use Rattle.bits.specs.Bits.{bit, bitsOf, bytesOf}
 use Rattle.bits.specs.Places.{flag, withBit}
+use Rattle.bits.specs.Reader.{asRead, stepOf}
+use Rattle.bits.specs.declared.Step.{Step}
 use Rattle.bits.proofs.Back.{bits-bytes, length-bytes}
+use Rattle.bits.proofs.Reading.{reads-on}
 use Rattle.bits.proofs.Setting.{flag-bit}
 use Rattle.interleave.specs.Interleave.{mapped, placed, interleaved}
 use Rattle.interleave.proofs.Twice.{length-placed}
@@ -18,10 +21,10 @@ use Rattle.interleave.proofs.placed_bits.Statement.{statement}
 use Rattle.interleave.proofs.placed_bits.Tie as tie
 
 abbrev Inv-loop : tie.InvT-loop
-Inv-loop payload places new₀ i₀ new i = (i ≤ 368) × (new ≡ bytesOf 46 (placed (bitsOf payload) i))
+Inv-loop payload places new₀ at₀ new at = (at ≤ 368) × (new ≡ bytesOf 46 (placed (bitsOf payload) at))
 
 abbrev μ-loop : tie.MeasureT-loop
-μ-loop payload places new₀ i₀ new i = 368 - i
+μ-loop payload places new₀ at₀ new at = 368 - at
 
 mapping-requires : tie.Need-mapping-requires Inv-loop μ-loop
 mapping-requires c κs = search needs
@@ -30,8 +33,30 @@ loop-holds : tie.Need-loop-holds Inv-loop μ-loop
 unfolding placed bytesOf
 loop-holds c = (omega arith, refl)
 
-bit-at-requires : tie.Need-bit-at-requires Inv-loop μ-loop
-bit-at-requires c κs = search needs
+next-bit-requires : tie.Need-next-bit-requires Inv-loop μ-loop
+next-bit-requires c κs = search needs
+
+enum-known-bit : tie.Need-enum-known-bit Inv-loop μ-loop
+enum-known-bit c = search needs
+
+enum-told : tie.Need-enum-told Inv-loop μ-loop
+enum-told c = search needs
+
+-- of 46 bytes a bit is read at each of 368 places
+read : (p : List ℕ) (i : ℕ) (r : Step) → length p ≡ 46 → i < 368 → r ≡ stepOf p i → r ≡ record { bit = asRead (getD (bitsOf p) i false); place = i + 1 }
+read p i r e h q = q ∙ reads-on p i (omega arith) (omega arith)
+
+-- so the end does not come
+returns : tie.Need-returns Inv-loop μ-loop
+returns c =
+    let t = c .before .before in
+    let l = t .before .before .loop in
+    let a = t .before .before .before .before .before in
+    let h : l .at < 368 = omega arith in
+    let r = ap (λ (s : Step). s .bit) (read (a .args .payload .now) (l .at) (t .next-bit .result) (a .pre) h (t .next-bit .ensures)) in
+    let e = c .enum-told .given .1 in
+    let z : _≡_ {A = ℕ} 0 1 = cc in
+    absurd (omega arith)
 
 -- one turn: bit i is put at its place
 turn : (l : List Bool) (i : ℕ) (new : List ℕ) (at b : ℕ) → new ≡ bytesOf 46 (placed l i) → at ≡ mapped i → b ≡ bit (getD l i false)
@@ -45,7 +70,7 @@ turn l i new at b e p q =
 
 slice-aggregate-set-bit : tie.Need-slice-aggregate-set-bit Inv-loop μ-loop
 slice-aggregate-set-bit c =
-    let l = c .before .before .before .loop in
+    let l = c .before .before .before .before .before .before .loop in
     sym (ap length (l .inv .1) ∙ length-bytes 46 _)
 
 mul-set-bit : tie.Need-mul-set-bit Inv-loop μ-loop
@@ -57,28 +82,39 @@ array-read-set-bit c = omega arith
 set-bit-requires : tie.Need-set-bit-requires Inv-loop μ-loop
 set-bit-requires c κs = search needs
 
-add-i : tie.Need-add-i Inv-loop μ-loop
-add-i c = omega arith
-
 loop-less : tie.Need-loop-less Inv-loop μ-loop
-loop-less c = omega arith
+loop-less c =
+    let t = c .before .before .before .before .before .before in
+    let l = t .before .before .loop in
+    let a = t .before .before .before .before .before in
+    let h : l .at < 368 = omega arith in
+    let p : t .next-bit .result .place ≡ l .at + 1 = ap (λ (r : Step). r .place) (read (a .args .payload .now) (l .at) (t .next-bit .result) (a .pre) h (t .next-bit .ensures)) in
+    omega arith
 
 loop-again : tie.Need-loop-again Inv-loop μ-loop
 loop-again c =
-    let l = c .before .before .before .before .before .loop in
-    let m = c .before .before .before .before .before .before .mapping in
-    let p = c .before .before .before .before .before .before .before .before .args .payload .now in
-    let h : l .i < 368 = omega arith in (
+    let t = c .before .before .before .before .before .before in
+    let l = t .before .before .loop in
+    let m = t .before .before .before .mapping in
+    let a = t .before .before .before .before .before in
+    let h : l .at < 368 = omega arith in
+    let r = read (a .args .payload .now) (l .at) (t .next-bit .result) (a .pre) h (t .next-bit .ensures) in
+    let p : t .next-bit .result .place ≡ l .at + 1 = ap (λ (s : Step). s .place) r in
+    let b = c .before .before .before .before .bit .given .0 .0 in
+    let e = ap (λ (s : Step). s .bit) r in
+    let f = c .before .before .before .before .bit .given .1 in
+    let q : b ≡ bit (getD (bitsOf (a .args .payload .now)) (l .at) false) = cc in (
       omega arith,
       c .before .set-bit .ensures .1
-          ∙ turn (bitsOf p) (l .i) (l .new) (getD (m .result) (l .i) 0) (c .before .before .before .bit-at .result) (l .inv .1)
-          (ap (λ (t : List ℕ). getD t (l .i) 0) (m .ensures) ∙ tabled-at mapped 368 (l .i) 0 h) (c .before .before .before .bit-at .ensures),
+          ∙ turn (bitsOf (a .args .payload .now)) (l .at) (l .new) (getD (m .result) (l .at) 0) b (l .inv .1)
+          (ap (λ (t : List ℕ). getD t (l .at) 0) (m .ensures) ∙ tabled-at mapped 368 (l .at) 0 h) q
+          ∙ ap (λ (k : ℕ). bytesOf 46 (placed (bitsOf (a .args .payload .now)) k)) (sym p),
     )
 
-returns : tie.Need-returns Inv-loop μ-loop
+returns-2 : tie.Need-returns-2 Inv-loop μ-loop
 unfolding interleaved
-returns c =
-    let e : c .before .loop .i ≡ 368 = omega arith in
+returns-2 c =
+    let e : c .before .loop .at ≡ 368 = omega arith in
     c .before .loop .inv .1 ∙ ap (λ (n : ℕ). bytesOf 46 (placed (bitsOf (c .before .before .before .before .args .payload .now)) n)) e
 
 pub placed-bits-spec : {M : Type 1} → statement M
@@ -89,12 +125,14 @@ placed-bits-spec =
     μ-loop
     mapping-requires
     loop-holds
-    bit-at-requires
+    next-bit-requires
+    enum-known-bit
+    enum-told
+    returns
     slice-aggregate-set-bit
     mul-set-bit
     array-read-set-bit
     set-bit-requires
-    add-i
     loop-less
     loop-again
-    returns)
+    returns-2)

@@ -1,8 +1,10 @@
 // Interleaving: bit i of 368 goes to place MAPPING[i].
 ghost use mathlib.Core.Path.{_≡_};
-ghost use lib.ListN.{length};
+ghost use mathlib.Core.Bool.{false};
+ghost use Prim.Native.Nat.{_≤_, _<_};
+ghost use lib.ListN.{length, getD, drop};
 ghost use Rattle.laws.specs.Tabled.{tabled};
-ghost use Rattle.bits.specs.Bits.{bitsOf, bytesOf};
+ghost use Rattle.bits.specs.Bits.{bit, bitsOf, byteOf, bytesOf};
 ghost use Rattle.interleave.specs.Interleave.{mapped, interleaved, interleavedOf};
 use bits::NextBit;
 use refusal::Refusal;
@@ -393,12 +395,12 @@ pub struct Interleaved {
 }
 
 // Each bit in order is put at its place.
-fn placed_bits(payload: &[u8]) -> [u8; 46]
+fn placed_bits(payload: &[u8]) -> [bool; 368]
     requires { ⌜ length (now payload) ≡ 46 ⌝ }
-    ensures { λ r. ⌜ r ≡ bytesOf 46 (interleaved (bitsOf (now (payload .entry)))) ⌝ }
+    ensures { λ r. ⌜ r ≡ interleaved (bitsOf (now (payload .entry))) ⌝ }
 {
     let places = mapping();
-    let mut new = [0u8; 46];
+    let mut new = [false; 368];
     let mut at = 0;
     while at < 368 {
         let step = bits::next_bit(payload, at);
@@ -406,10 +408,47 @@ fn placed_bits(payload: &[u8]) -> [u8; 46]
         let NextBit::Value(b) = bit else {
             return new;
         };
-        bits::set_bit(&mut new, places[at], b);
+        new[places[at]] = b == 1;
         at = step.place;
     }
     new
+}
+
+fn number(w: &[bool], k: usize) -> u8
+    requires { ⌜ k < length (now w) ⌝ }
+    ensures { λ r. ⌜ (r ≡ bit (getD (now (w .entry)) k false)) × (r ≤ 1) ⌝ }
+{
+    if w[k] {
+        return 1;
+    }
+    0
+}
+
+// The byte of the eight bits from j on.
+fn byte_at(w: &[bool], j: usize) -> u8
+    requires { ⌜ (length (now w) ≡ 368) × (j ≤ 360) ⌝ }
+    ensures { λ r. ⌜ r ≡ byteOf (drop j (now (w .entry))) ⌝ }
+{
+    let a = number(w, j);
+    let b = number(w, j + 1);
+    let c = number(w, j + 2);
+    let d = number(w, j + 3);
+    let e = number(w, j + 4);
+    let f = number(w, j + 5);
+    let g = number(w, j + 6);
+    let h = number(w, j + 7);
+    128 * a + 64 * b + 32 * c + 16 * d + 8 * e + 4 * f + 2 * g + h
+}
+
+fn packed(w: &[bool]) -> [u8; 46]
+    requires { ⌜ length (now w) ≡ 368 ⌝ }
+    ensures { λ r. ⌜ r ≡ bytesOf 46 (now (w .entry)) ⌝ }
+{
+    let mut out = [0u8; 46];
+    for i in 0..46 {
+        out[i] = byte_at(w, 8 * i);
+    }
+    out
 }
 
 pub fn interleave(payload: &[u8]) -> Interleaved
@@ -421,8 +460,9 @@ pub fn interleave(payload: &[u8]) -> Interleaved
             bytes: [0u8; 46],
         };
     }
+    let placed = placed_bits(payload);
     Interleaved {
         answer: Verdict::Done,
-        bytes: placed_bits(payload),
+        bytes: packed(&placed),
     }
 }

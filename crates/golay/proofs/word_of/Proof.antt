@@ -1,6 +1,6 @@
 -- `golay::word_of` meets its contract. Assumes nothing.
 use mathlib.Core.Path.{sym, subst}
-use Prim.Native.Nat.{ℕ, _-_, _<_}
+use Prim.Native.Nat.{ℕ, _<_}
 use native.Mathlib.Omega.{arith}
 use lib.Count.{ones-le}
 use Rattle.golay.specs.Golay.{golay}

@@ -1,40 +1,20 @@
 -- When a LICH is answered, and when it is refused: each of its four words is within three flips of a codeword, or one is not. Assumes nothing.
 use mathlib.Core.Path.{_≡_, refl, sym, ap, _∙_, subst}
-use mathlib.Core.Bool.{Bool}
 use mathlib.Core.List.{List}
-use mathlib.Core.Option.{Option, some, none}
+use mathlib.Core.Option.{none}
 use Prim.Native.Nat.{ℕ, zero, suc, _+_, _*_, _^_, _≤_, _<_}
-use native.Mathlib.Decide.{ℕ-discrete}
 use native.Mathlib.Omega.{arith}
-use lib.ListN.{length, take, drop, length-drop}
-use lib.Seq.{length-take-le}
-use borrow.Author.Tests.{ne-eqb}
+use lib.ListN.{length}
 use Rattle.laws.specs.Value.{Bytes}
-use Rattle.refusal.specs.Number.{saidOf}
 use Rattle.refusal.specs.declared.Refusal.{Refusal}
-use Rattle.refusal.specs.declared.Refusal.the-variants.{WrongLength, TooFar, BadGolay}
-use Rattle.refusal.specs.declared.Verdict.the-variants.{Done}
-use Rattle.bits.specs.Bits.{bitsOf, bytesOf}
+use Rattle.refusal.specs.declared.Refusal.the-variants.{BadGolay}
 use Rattle.golay.specs.declared.Reading.{Reading}
 use Rattle.golay.specs.declared.Reading.the-variants as golay
 use Rattle.golay.specs.Golay.{golay as codeword, apart, decodedOf as golayReadOf}
 use Rattle.golay.proofs.Only.{reads, three-flips}
-use Rattle.fec.specs.declared.Kind.{Kind}
-use Rattle.fec.specs.declared.Kind.the-variants.{Header, Stream, Packet}
-use Rattle.fec.specs.declared.Decoded.{Decoded}
-use Rattle.fec.specs.Nearest.{readOf}
-use Rattle.fec.specs.Kinds.{bitsIn, codedBytes, limitOf, sendsIn, decoded, notDecoded, found, decodedOf}
-use Rattle.fec.proofs.Bodies.{decoded-long}
-use Rattle.fec.proofs.When.{Near, Far, answered-when, refused-when}
 use Rattle.decode.specs.declared.LichRead.{LichRead}
-use Rattle.decode.specs.declared.LsfRead.{LsfRead}
-use Rattle.decode.specs.declared.StreamRead.{StreamRead}
-use Rattle.decode.specs.declared.PacketRead.{PacketRead}
 use Rattle.decode.specs.Lich.{numberOfCounted, lichRefused, lichFrom, wordAt, lichReadOf}
-use Rattle.decode.specs.Bodies.{unmasked, noLsf, lsfBy, lsfFrom, lsfReadOf, noStream, streamPart, streamBy, streamReadOf, noPacket, packetBy, packetFrom, packetReadOf}
-use Rattle.laws.proofs.Bytes.{bytes-take}
-use Rattle.decode.proofs.Masks.{length-unmasked, unmasked-bytes}
-use Rattle.decode.proofs.ByLength.{lsf-long, stream-long, packet-long, first-refused, second-refused, third-refused, fourth-refused, all-read}
+use Rattle.decode.proofs.ByLength.{first-refused, second-refused, third-refused, fourth-refused, all-read}
 use Rattle.decode.proofs.LichBack.{word-lt}
 
 module _ (s : List ℕ) where

@@ -3,7 +3,7 @@ use mathlib.Core.Path.{_≡_, refl, sym, ap, ap₂, _∙_, subst}
 use mathlib.Core.Bool.{Bool}
 use mathlib.Core.List.{List}
 use mathlib.Core.Option.{Option, some, none}
-use Prim.Native.Nat.{ℕ, zero, suc, _+_, _*_, _^_, _≤_, _<_}
+use Prim.Native.Nat.{ℕ}
 use native.Mathlib.Decide.{ℕ-discrete}
 use native.Mathlib.Omega.{arith}
 use lib.ListN.{length, take, drop, length-drop}
@@ -11,13 +11,9 @@ use lib.Seq.{length-take-le}
 use borrow.Author.Tests.{ne-eqb}
 use Rattle.laws.specs.Value.{Bytes}
 use Rattle.refusal.specs.Number.{saidOf}
-use Rattle.refusal.specs.declared.Refusal.{Refusal}
 use Rattle.refusal.specs.declared.Refusal.the-variants.{WrongLength, TooFar, BadGolay}
 use Rattle.refusal.specs.declared.Verdict.the-variants.{Done}
 use Rattle.bits.specs.Bits.{bitsOf, bytesOf}
-use Rattle.golay.specs.declared.Reading.{Reading}
-use Rattle.golay.specs.Golay.{golay as codeword, apart, decodedOf as golayReadOf}
-use Rattle.golay.proofs.Only.{reads, three-flips}
 use Rattle.fec.specs.declared.Kind.{Kind}
 use Rattle.fec.specs.declared.Kind.the-variants.{Header, Stream, Packet}
 use Rattle.fec.specs.declared.Decoded.{Decoded}
@@ -29,12 +25,11 @@ use Rattle.decode.specs.declared.LichRead.{LichRead}
 use Rattle.decode.specs.declared.LsfRead.{LsfRead}
 use Rattle.decode.specs.declared.StreamRead.{StreamRead}
 use Rattle.decode.specs.declared.PacketRead.{PacketRead}
-use Rattle.decode.specs.Lich.{numberOfCounted, lichRefused, lichFrom, wordAt, lichReadOf}
+use Rattle.decode.specs.Lich.{lichRefused, lichFrom, lichReadOf}
 use Rattle.decode.specs.Bodies.{unmasked, noLsf, lsfBy, lsfFrom, lsfReadOf, noStream, streamPart, streamBy, streamReadOf, noPacket, packetBy, packetFrom, packetReadOf}
 use Rattle.laws.proofs.Bytes.{bytes-take}
 use Rattle.decode.proofs.Masks.{length-unmasked, unmasked-bytes}
-use Rattle.decode.proofs.ByLength.{lsf-long, stream-long, packet-long, first-refused, second-refused, third-refused, fourth-refused, all-read}
-use Rattle.decode.proofs.LichBack.{word-lt}
+use Rattle.decode.proofs.ByLength.{lsf-long, stream-long, packet-long}
 use Rattle.decode.proofs.LichWhen.{Words, Lost, read-or-lost, lich-read, lich-lost}
 
 -- ---- coded bytes of the right length are near a word, or far from all

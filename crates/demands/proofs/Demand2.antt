@@ -3,7 +3,7 @@
 use mathlib.Core.Path.{_≡_, sym, ap, _∙_}
 use mathlib.Core.Bool.{Bool, true}
 use mathlib.Core.List.{List}
-use Prim.Native.Nat.{ℕ, _^_, _≤_, _<_}
+use Prim.Native.Nat.{ℕ, _≤_, _<_}
 use lib.ListN.{length}
 use Rattle.laws.specs.Value.{Bytes}
 use Rattle.refusal.specs.declared.Verdict.the-variants.{Done}
@@ -14,7 +14,6 @@ use Rattle.fec.proofs.Unique.{nearest-is, only-nearest}
 use Rattle.protocol.specs.declared.LsfFrame.{LsfFrame}
 use Rattle.protocol.specs.declared.StreamFrame.{StreamFrame}
 use Rattle.protocol.specs.declared.PacketFrame.{PacketFrame}
-use Rattle.protocol.specs.declared.PacketFrameCounter.{PacketFrameCounter}
 use Rattle.encode.specs.Lich.{lichBytes}
 use Rattle.encode.specs.Bodies.{lsfBodyOf, streamBodyOf, packetBodyOf, countable}
 use Rattle.encode.specs.Symbols.{lsfSymbolsOf, streamSymbolsOf, packetSymbolsOf}

@@ -2,7 +2,7 @@
 -- one. Assumes nothing.
 use mathlib.Core.Path.{_≡_, refl, sym, ap, ap₂, _∙_, subst}
 use mathlib.Core.Logic.{_↔_}
-use mathlib.Core.Bool.{Bool, true, false, cond, _&&_}
+use mathlib.Core.Bool.{Bool, true, false, cond}
 use mathlib.Core.List.{List, []}
 use Prim.Native.Nat.{ℕ, _+_, _*_, _%_, _≤_, _<_}
 use native.Mathlib.Omega.{arith}
@@ -26,8 +26,6 @@ use Rattle.protocol.proofs.Whole.{Thirty, field-bytes}
 use Rattle.protocol.proofs.TypeBits.{type-read}
 use Rattle.decode.proofs.Words.{value-two}
 use Rattle.decode.specs.declared.LsfRead.{LsfRead}
-use Rattle.decode.specs.declared.StreamRead.{StreamRead}
-use Rattle.decode.specs.declared.PacketRead.{PacketRead}
 use Rattle.decode.specs.Bodies.{lsfReadOf, streamReadOf, packetReadOf}
 use Rattle.automaton.specs.Seen.{Seen, head, piece, end, unread, streams, isStream}
 use Rattle.automaton.specs.Step as step
@@ -41,7 +39,7 @@ use Rattle.receiver.specs.declared.Late.{Late}
 use Rattle.receiver.specs.declared.Answer.{Answer}
 use Rattle.receiver.specs.declared.Answer.the-variants as Answers
 use Rattle.receiver.specs.See.{headerBy, headerSeen, streamFields, streamBy, streamSeen, packetBy, packetSeen, see}
-use Rattle.receiver.specs.Receiver.{receiverFor, within, noHeader, noStream, fits, lateFor, answerFor, headerFor, streamFor, unchanged, receivedOf, memoryOf}
+use Rattle.receiver.specs.Receiver.{within, noHeader, noStream, fits, lateFor, answerFor, headerFor, unchanged, receivedOf, memoryOf}
 use Rattle.receiver.specs.Runs.{Fed, _▹_, Held, after, Heard, heard, seenOf}
 use Rattle.demands.proofs.AsSeen.{all-sound, holding, after-is, heardFor, heard-is}
 use Rattle.demands.proofs.Sees.{HeaderSlot, header-says}

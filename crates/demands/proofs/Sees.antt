@@ -13,7 +13,7 @@ use Rattle.decode.specs.Bodies.{lsfReadOf}
 use Rattle.automaton.specs.Seen.{Seen, head}
 use Rattle.automaton.specs.Runs.{Slots, _▸_, _▸▸_, Sounds}
 use Rattle.receiver.specs.See.{headerSeen, see}
-use Rattle.receiver.specs.Runs.{Fed, _▹_, _▹▹_, after, seenOf}
+use Rattle.receiver.specs.Runs.{Fed, _▹_, _▹▹_, seenOf}
 use Rattle.demands.proofs.AsSeen.{sound}
 
 -- a header slot that reads with a good CRC

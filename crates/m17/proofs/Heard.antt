@@ -9,7 +9,6 @@ use Rattle.refusal.specs.declared.Refusal.{Refusal}
 use Rattle.refusal.specs.declared.Verdict.the-variants as verdict
 use Rattle.address.specs.Address.{numberOfHeard}
 use Rattle.address.specs.declared.Address.{Address}
-use Rattle.address.specs.declared.Heard.{Heard}
 use Rattle.address.specs.declared.Heard.the-variants.{Read, Refused}
 use Rattle.address.specs.declared.Reading.{Reading}
 use Rattle.m17.specs.Given.{heardInto, heardGiven, charactersGiven}

@@ -1,10 +1,10 @@
--- `scripts::show::bytes` meets its contract. Assumes nothing.
+-- `print::bytes` is safe and ends. Assumes nothing.
 use mathlib.Core.Path.{_≡_}
 use Prim.Native.Nat.{_-_, _≤_}
 use lib.ListN.{length}
 use borrow.Author.Needs.{needs}
-use Rattle.scripts.proofs.show.bytes.Statement.{statement}
-use Rattle.scripts.proofs.show.bytes.Tie as tie
+use Rattle.print.proofs.bytes.Statement.{statement}
+use Rattle.print.proofs.bytes.Tie as tie
 
 abbrev Inv-loop : tie.InvT-loop
 Inv-loop s i₀ i-end i = (i ≤ i-end) × (i-end ≡ length s)
@@ -27,8 +27,8 @@ shared-slice-read-wide c = search needs
 wide-requires : tie.Need-wide-requires Inv-loop μ-loop
 wide-requires c κs = search needs
 
-print-hex-requires : tie.Need-print-hex-requires Inv-loop μ-loop
-print-hex-requires c κs = search needs
+hex-requires : tie.Need-hex-requires Inv-loop μ-loop
+hex-requires c κs = search needs
 
 add-i : tie.Need-add-i Inv-loop μ-loop
 add-i c = search needs
@@ -53,7 +53,7 @@ bytes-spec =
     loop-holds
     shared-slice-read-wide
     wide-requires
-    print-hex-requires
+    hex-requires
     add-i
     loop-less
     loop-again

@@ -17,6 +17,9 @@
 uint8_t m17_get_bit(const uint8_t *bytes, size_t bytes_len, size_t place, uint8_t *out);
 /* The bit at a place becomes 0 where value is 0, else 1. 2: the place is past the bytes. */
 uint8_t m17_set_bit(uint8_t *bytes, size_t bytes_len, size_t place, uint8_t value);
+/* Reads bits in order: read becomes 1, the bit at the place is written to out and the place becomes the next; or read becomes 0 ("the
+ * end"), and the bit and the place are left. */
+void m17_next_bit(const uint8_t *bytes, size_t bytes_len, size_t *place, uint8_t *read, uint8_t *out);
 /* The CRC-16 of any number of bytes: 0 over bytes that end in their CRC, high byte first. */
 uint16_t m17_crc(const uint8_t *input, size_t input_len);
 /* The CRC of what came before, which gave start, and of these bytes after it. */

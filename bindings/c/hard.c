@@ -247,6 +247,10 @@ static void judge(size_t at, const char *call, uint8_t said)
 
 static uint8_t crc(const void *at, size_t len) { return m17_crc(at, len) & 0; }
 static uint8_t crc_update(uint16_t start, const void *at, size_t len) { return m17_crc_update(start, at, len) & 0; }
+static uint8_t next_bit(const void *at, size_t len, void *place, void *read, void *out)
+{
+    return m17_next_bit(at, len, place, read, out), 0;
+}
 static uint8_t random_xor(void *at, size_t len) { return m17_random_xor(at, len), 0; }
 static uint8_t receiver_new(void) { return m17_receiver_new().phase; }
 
@@ -257,6 +261,8 @@ static int turn(size_t at)
     switch (at) {
     CALL(m17_get_bit, A = lend(below(50), 1, NULL); P = one(1), LENT(A), below(8) ? below(400) : below(UINT64_MAX), P.at)
     CALL(m17_set_bit, A = lend(below(50), 1, NULL), LENT(A), below(8) ? below(400) : below(UINT64_MAX), k)
+    CALL(next_bit, A = lend(below(50), 1, NULL); P = one(sizeof(size_t)); Q = one(1); S = one(1);
+         if (below(8)) *(size_t *)P.at = below(400), LENT(A), P.at, Q.at, S.at)
     CALL(crc, A = lend(below(900), 1, NULL), LENT(A))
     CALL(crc_update, A = lend(below(900), 1, NULL), below(65536), LENT(A))
     CALL(random_xor, A = lend(below(100), 1, NULL), LENT(A))

@@ -184,6 +184,26 @@ static void any_length(void)
     }
 }
 
+/* All bits in order, and then the end: at once past the bytes, and again. */
+static void in_order(void)
+{
+    for (size_t len = 0; len <= 46; len++) {
+        fresh();
+        r.size = 0;
+        for (size_t i = 0; i < 8 * len; i++) {
+            m17_next_bit(r.body, len, &r.size, &r.flag, &r.small);
+            HOLD(r.flag == 1 && r.size == i + 1 && r.small == (r.body[i / 8] >> (7 - i % 8) & 1));
+        }
+        const size_t ends[] = {8 * len, 8 * len, 8 * len + 1, 8 * len + 8, (size_t)-2, (size_t)-1};
+        for (size_t i = 0; i < sizeof ends / sizeof *ends; i++) {
+            fresh();
+            r.size = ends[i];
+            m17_next_bit(r.body, len, &r.size, &r.flag, &r.small);
+            HOLD(r.flag == 0 && r.size == ends[i] && r.small == start.small);
+        }
+    }
+}
+
 static void leaves(void)
 {
     EACH(m17_interleave(r.body, n[0], r.out, n[1]), 46, 46);
@@ -395,6 +415,7 @@ int main(void)
 {
     set_up();
     any_length();
+    in_order();
     leaves();
     header();
     gathered();

@@ -93,6 +93,11 @@ fn any_length() {
         for (place, said) in [(0, if len == 0 { 2 } else { 0 }), (places, 2), (places + 1, 2), (usize::MAX, 2)] {
             assert_eq!(unsafe { m17_get_bit(r.body.as_ptr(), len, place, &mut r.small) }, said);
             assert_eq!(unsafe { m17_set_bit(r.out.as_mut_ptr(), len, place, 0) }, said);
+            let (mut next, mut read) = (place, 7);
+            r.small = 7;
+            unsafe { m17_next_bit(r.body.as_ptr(), len, &mut next, &mut read, &mut r.small) };
+            let moved = said == 0;
+            assert_eq!((next, read, r.small != 7), (place + moved as usize, moved as u8, moved));
         }
     }
 }

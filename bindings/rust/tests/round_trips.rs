@@ -1,5 +1,6 @@
 //! What is written reads back, for each kind, through bodies and through symbols.
 use okihemon::address::{decode_address, encode_address};
+use okihemon::bits::Bits;
 use okihemon::decode::*;
 use okihemon::encode::*;
 use okihemon::{
@@ -158,5 +159,12 @@ fn leaves() {
     assert_eq!((bits, bits::get_bit(&bits, 9), bits::get_bit(&bits, 8)), ([0, 0x40, 0], Ok(1), Ok(0)));
     bits::set_bit(&mut bits, 9, 0).unwrap();
     assert_eq!(bits, [0; 3]);
+    let given: [u8; 46] = bytes(3);
+    let read: Vec<u8> = Bits::new(&given).iter().collect();
+    let wanted: Vec<u8> = (0..368).map(|place| bits::get_bit(&given, place).unwrap()).collect();
+    assert_eq!(read, wanted);
+    let mut reader = Bits::new(&[0x80]).iter().skip(7);
+    assert_eq!((reader.next(), reader.next(), reader.next()), (Some(0), None, None));
+    assert_eq!(Bits::new(&[]).iter().next(), None);
     assert_eq!(interleave(&interleave(&bytes::<46>(2)).unwrap()), Ok(bytes(2)));
 }

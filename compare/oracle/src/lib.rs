@@ -36,6 +36,15 @@ pub fn set_bit(bytes: &mut [u8], place: usize, value: u8) {
     bits::BitsMut::new(bytes).set_bit(place, value)
 }
 
+/// What the iterator gives after as many bits as `place` says.
+pub fn next_bit(bytes: &[u8], place: usize) -> Option<u8> {
+    bits::Bits::new(bytes).iter().nth(place)
+}
+
+pub fn bits_of(bytes: &[u8]) -> Vec<u8> {
+    bits::Bits::new(bytes).iter().collect()
+}
+
 pub fn random_xor(bytes: &mut [u8]) {
     random::random_xor(bytes)
 }

@@ -12,6 +12,17 @@ pub fn set_bit(bytes: &mut [u8], place: usize, value: u8) -> u8 {
     unsafe { c::m17_set_bit(bytes.as_mut_ptr(), bytes.len(), place, value) }
 }
 
+/// The next bit or the end, and the place after it. No bit is 165: that says that the end was told with a bit, or badly.
+pub fn next_bit(bytes: &[u8], mut place: usize) -> (Option<u8>, usize) {
+    let (mut read, mut out) = (MARK, MARK);
+    unsafe { c::m17_next_bit(bytes.as_ptr(), bytes.len(), &mut place, &mut read, &mut out) };
+    match (read, out) {
+        (1, bit) => (Some(bit), place),
+        (0, MARK) => (None, place),
+        _ => (Some(MARK), place),
+    }
+}
+
 pub fn crc(input: &[u8]) -> u16 {
     unsafe { c::m17_crc(input.as_ptr(), input.len()) }
 }

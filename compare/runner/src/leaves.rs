@@ -5,7 +5,7 @@ use crate::random::Random;
 use cai_golay::extended as golay;
 use ours::{refused, Refused};
 
-pub const ALL: [Comparison; 8] = [
+pub const ALL: [Comparison; 9] = [
     Comparison {
         name: "get_bit",
         layout: "the place in eight bytes, highest first, and then the bytes",
@@ -21,6 +21,14 @@ pub const ALL: [Comparison; 8] = [
         counts_ties: false,
         inputs: places_to_set,
         check: set_bit,
+    },
+    Comparison {
+        name: "next_bit",
+        layout: "the place in eight bytes, highest first, and then the bytes; from place 0 on all are read, and twice the end",
+        shortest: Some(8),
+        counts_ties: false,
+        inputs: places_to_read,
+        check: next_bit,
     },
     Comparison {
         name: "crc",
@@ -105,14 +113,15 @@ fn place_of(input: &[u8]) -> usize {
     u64::from_be_bytes(input[..8].try_into().unwrap()) as usize
 }
 
-/// Every place of strings of the lengths 0 to 48 in turn, and a few past the end.
+/// Every place of strings of the lengths 0 to `longest` in turn, and a few past the end.
 fn places(
     random: &mut Random,
     strings: usize,
+    longest: usize,
     mut take: impl FnMut(usize, &[u8]) -> Result<(), Stop>,
 ) -> Result<(), Stop> {
     for turn in 0..strings {
-        let len = turn % 49;
+        let len = turn % (longest + 1);
         let bytes = random.bytes(len);
         for place in (0..8 * len + 9).chain([usize::MAX / 8, usize::MAX]) {
             take(place, &bytes)?;
@@ -122,11 +131,15 @@ fn places(
 }
 
 fn places_to_get(random: &mut Random, wanted: &Wanted, take: Take) -> Result<(), Stop> {
-    places(random, wanted.many(196), |place, bytes| take(&[&place.to_be_bytes()[..], bytes].concat()))
+    places(random, wanted.many(196), 48, |place, bytes| take(&[&place.to_be_bytes()[..], bytes].concat()))
+}
+
+fn places_to_read(random: &mut Random, wanted: &Wanted, take: Take) -> Result<(), Stop> {
+    places(random, wanted.many(195), 64, |place, bytes| take(&[&place.to_be_bytes()[..], bytes].concat()))
 }
 
 fn places_to_set(random: &mut Random, wanted: &Wanted, take: Take) -> Result<(), Stop> {
-    places(random, wanted.many(196), |place, bytes| {
+    places(random, wanted.many(196), 48, |place, bytes| {
         for value in [0, 1, 2, 255] {
             take(&[&place.to_be_bytes()[..], &[value], bytes].concat())?;
         }
@@ -141,6 +154,27 @@ fn get_bit(input: &[u8]) -> Said {
         Some(rust) => same(Ok(rust), ours, |said| shown(said, u8::to_string)),
         None => refusal(2, ours, u8::to_string),
     }
+}
+
+/// The Rust's iterator keeps its place to itself: past a bit it is the next, and at the end it stays.
+fn next_bit(input: &[u8]) -> Said {
+    let (place, bytes) = (place_of(input), &input[8..]);
+    if place == 0 {
+        let mut rust: Vec<_> = oracle::bits_of(bytes).into_iter().map(Some).collect();
+        rust.extend([None, None]);
+        let mut place = 0;
+        let ours: Vec<_> = rust.iter().map(|_| step(bytes, &mut place)).collect();
+        return same(rust, ours, |all| format!("{all:?}"));
+    }
+    let rust = oracle::next_bit(bytes, place);
+    let after = if rust.is_some() { place + 1 } else { place };
+    same((rust, after), ours::next_bit(bytes, place), |said| format!("{said:?}"))
+}
+
+fn step(bytes: &[u8], place: &mut usize) -> Option<u8> {
+    let (bit, next) = ours::next_bit(bytes, *place);
+    *place = next;
+    bit
 }
 
 fn set_bit(input: &[u8]) -> Said {

@@ -5,7 +5,7 @@ use mathlib.Core.List.{List}
 use Prim.Native.Nat.{ℕ, _*_, _<_, _≤_}
 use native.Mathlib.Omega.{arith}
 use lib.ListN.{length, getD, List·getD-eq-default}
-use borrow.Author.Tests.{ltb-false, lt-ltb, le-ltb}
+use borrow.Author.Tests.{ltb-true, ltb-false, lt-ltb, le-ltb}
 use Rattle.refusal.specs.declared.Refusal.{Refusal}
 use Rattle.refusal.specs.declared.Refusal.the-variants.{OutOfRange}
 use Rattle.bits.specs.declared.Bit.the-variants.{Value, Refused}
@@ -22,6 +22,13 @@ module _ (s : List ℕ) (i : ℕ) where
     where
       go : (t : Bool) → within s i ≡ t → b ≡ bit (getD (bitsOf s) i false)
       go true w = let p = by true w in cc
+      go false w = let p = by false w in let z : _≡_ {A = ℕ} 0 1 = cc in absurd (omega arith)
+
+  pub held : (b : ℕ) → getOf s i ≡ Value b → i < 8 * length s
+  held b e = go (within s i) refl
+    where
+      go : (t : Bool) → within s i ≡ t → i < 8 * length s
+      go true w = ltb-true i (8 * length s) w
       go false w = let p = by false w in let z : _≡_ {A = ℕ} 0 1 = cc in absurd (omega arith)
 
   pub missed : (why : Refusal) → getOf s i ≡ Refused why → 8 * length s ≤ i

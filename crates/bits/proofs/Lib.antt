@@ -1,3 +1,5 @@
 pub mod Back
 pub mod Setting
 pub mod Getting
+pub mod Reading
+pub mod Packed

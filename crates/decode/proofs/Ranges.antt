@@ -7,10 +7,9 @@ use Prim.Native.Nat.{ℕ, _+_, _*_, _/_, _%_, _^_, _<_}
 use native.Mathlib.Decide.{ℕ-discrete}
 use native.Mathlib.Omega.{arith}
 use lib.Dec.{leb}
-use lib.Ieee.{Float}
 use lib.ListN.{length, getD, take, drop, length-drop}
 use lib.Seq.{length-take-le}
-use borrow.Author.Tests.{eq-eqb, ne-eqb}
+use borrow.Author.Tests.{ne-eqb}
 use Rattle.laws.specs.Value.{inBytes, Bytes}
 use Rattle.laws.proofs.Number.{length-in-bytes}
 use Rattle.refusal.specs.declared.Refusal.{Refusal}
@@ -36,7 +35,6 @@ use Rattle.decode.specs.declared.StreamRead.{StreamRead}
 use Rattle.decode.specs.declared.PacketRead.{PacketRead}
 use Rattle.decode.specs.Lich.{lichRefused, fourWords, wordAt, lichReadOf}
 use Rattle.decode.specs.Bodies.{unmasked, lsfBy, lsfReadOf, noStream, streamPart, streamBy, streamReadOf, noPacket, counterFrom, packetBy, packetReadOf}
-use Rattle.decode.specs.Symbols.{bodyFrom, lsfParsedOf, streamParsedOf, packetParsedOf}
 use Rattle.laws.proofs.Bytes.{bytes-in-bytes, bytes-zeros, bytes-take, bytes-drop}
 use Rattle.decode.proofs.Words.{data-lt}
 use Rattle.decode.proofs.ByLength.{lich-long, lsf-long, stream-long, packet-long}
@@ -111,14 +109,6 @@ lsf-range body = by-length (ℕ-discrete (length body) 46)
     by-length (yes l) = rw (lsf-long body l) (by-answer (decodedOf Header (unmasked body) .answer) (decodedOf Header (unmasked body) .bytes) (decoded-thirty Header (unmasked body)))
     by-length (no n) = rw (ne-eqb (length body) 46 n) (record { long = refl; bytes = bytes-zeros 30 })
 
--- through symbols
-pub lsf-parsed-range : (xs : List Float) → Octets 30 (lsfParsedOf xs .frame .bytes)
-unfolding lsfParsedOf
-lsf-parsed-range xs = elim (ℕ-discrete (length xs) 192) [
-  | yes l ↦ rw (eq-eqb (length xs) 192 l) (lsf-range (bodyFrom xs))
-  | no n ↦ rw (ne-eqb (length xs) 192 n) (record { long = refl; bytes = bytes-zeros 30 })
-]
-
 -- ---- stream
 
 pub record StreamRange (r : StreamRead) : Type 0 where
@@ -165,13 +155,6 @@ stream-range body = by-length (ℕ-discrete (length body) 46)
         rw (stream-long body l) (by-answer (decodedOf Stream rx .answer) (decodedOf Stream rx .bytes) (lichReadOf s) (lich-range s) (decoded-thirty Stream rx))
     by-length (no n) = rw (ne-eqb (length body) 46 n) (no-stream-range WrongLength)
 
-pub stream-parsed-range : (xs : List Float) → StreamRange (streamParsedOf xs)
-unfolding streamParsedOf
-stream-parsed-range xs = elim (ℕ-discrete (length xs) 192) [
-  | yes l ↦ rw (eq-eqb (length xs) 192 l) (stream-range (bodyFrom xs))
-  | no n ↦ rw (ne-eqb (length xs) 192 n) (no-stream-range WrongLength)
-]
-
 -- ---- packet
 
 -- the number of a frame
@@ -208,10 +191,3 @@ packet-range body = by-length (ℕ-discrete (length body) 46)
     by-length : Dec (length body ≡ 46) → PacketRange (packetReadOf body)
     by-length (yes l) = rw (packet-long body l) (by-answer (decodedOf Packet (unmasked body) .answer) (decodedOf Packet (unmasked body) .bytes) (decoded-thirty Packet (unmasked body)))
     by-length (no n) = rw (ne-eqb (length body) 46 n) (no-packet-range WrongLength)
-
-pub packet-parsed-range : (xs : List Float) → PacketRange (packetParsedOf xs)
-unfolding packetParsedOf
-packet-parsed-range xs = elim (ℕ-discrete (length xs) 192) [
-  | yes l ↦ rw (eq-eqb (length xs) 192 l) (packet-range (bodyFrom xs))
-  | no n ↦ rw (ne-eqb (length xs) 192 n) (no-packet-range WrongLength)
-]

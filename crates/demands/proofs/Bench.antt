@@ -13,7 +13,6 @@ use Rattle.crc.specs.Crc.{crcFrom, crc}
 use Rattle.interleave.specs.Interleave.{mapped}
 use Rattle.address.specs.declared.Address.the-variants.{Invalid, Callsign, Reserved, Broadcast}
 use Rattle.address.specs.declared.Heard.the-variants.{Read, Refused}
-use Rattle.address.specs.declared.Reading.{Reading}
 use Rattle.address.specs.declared.Heard.{Heard}
 use Rattle.address.specs.Callsign.{alphabet, character, callsignOf, upper, placeIn, digitOf, known, blank, callsignValue}
 use Rattle.address.specs.Address.{encodedOf, decodedOf, addressOf}

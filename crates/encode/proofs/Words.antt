@@ -1,19 +1,16 @@
 -- The 48 bits of a LICH and their four Golay words, written out as the code has them. Assumes nothing.
-use mathlib.Core.Path.{_≡_, refl, ap, ap₂, _∙_}
+use mathlib.Core.Path.{_≡_, ap, ap₂, _∙_}
 use mathlib.Core.List.{List, [], _∷_, _++_}
 use Prim.Native.Nat.{ℕ, _+_, _*_, _/_, _%_, _^_, _<_}
-use native.Mathlib.Nat.{div-one, mod-lt}
+use native.Mathlib.Nat.{div-one}
 use native.Mathlib.Omega.{arith}
-use lib.Dec.{lit<}
 use lib.Pow.{mod-mod-pow}
 use lib.ListN.{length, getD}
 use borrow.Author.Tests.{lt-ltb}
-use Rattle.laws.specs.Value.{valueOf, inBytes, Bytes}
-use Rattle.laws.proofs.Bytes.{bytes-append, bytes-in-bytes}
+use Rattle.laws.specs.Value.{valueOf, inBytes}
 use Rattle.refusal.specs.declared.Refusal.{Refusal}
 use Rattle.golay.specs.declared.Codeword.the-variants.{Word, Refused}
 use Rattle.golay.specs.Golay.{golay, encodedOf}
-use Rattle.golay.proofs.Linear.{golay-lt}
 use Rattle.encode.specs.Lich.{lichValue, golayBytes, lichWords}
 
 pub value-five : (counter : ℕ) (s : List ℕ) → length s ≡ 5
@@ -54,21 +51,3 @@ four-words v a b c d ea eb ec ed =
     (ap₂ (λ (s t : List ℕ). s ++ t)
     (ap₂ (λ (s t : List ℕ). s ++ t) (three a (v / 2 ^ 36 % 4096) ea) (three b (v / 2 ^ 24 % 4096) eb)) (three c (v / 2 ^ 12 % 4096) ec))
     (three d (v % 4096) ed)
-
--- ---- how many, and that each is a byte
-
-pub length-words : (v : ℕ) → length (lichWords v) ≡ 12
-unfolding lichWords inBytes
-length-words v = refl
-
-bytes-golay : (n : ℕ) → Bytes (golayBytes (n % 4096))
-bytes-golay n = bytes-in-bytes 3 (golay (n % 4096)) (golay-lt (n % 4096) (mod-lt n (lit< tt)))
-
-pub bytes-words : (v : ℕ) → Bytes (lichWords v)
-unfolding lichWords
-bytes-words v =
-    bytes-append (golayBytes (v / 2 ^ 36 % 4096) ++ golayBytes (v / 2 ^ 24 % 4096) ++ golayBytes (v / 2 ^ 12 % 4096)) (golayBytes (v % 4096))
-    (bytes-append (golayBytes (v / 2 ^ 36 % 4096) ++ golayBytes (v / 2 ^ 24 % 4096)) (golayBytes (v / 2 ^ 12 % 4096))
-    (bytes-append (golayBytes (v / 2 ^ 36 % 4096)) (golayBytes (v / 2 ^ 24 % 4096)) (bytes-golay (v / 2 ^ 36)) (bytes-golay (v / 2 ^ 24)))
-    (bytes-golay (v / 2 ^ 12)))
-    (bytes-golay v)

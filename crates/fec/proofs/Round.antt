@@ -6,15 +6,14 @@ use Prim.Native.Nat.{ℕ, _-_, _*_, _≤_, _<_}
 use native.Mathlib.Decide.{decLt}
 use native.Mathlib.Omega.{arith}
 use lib.ListN.{length, take, getD, replicate, length-append, length-replicate}
-use lib.Seq.{length-take-le, take-at, getD-take}
+use lib.Seq.{length-take-le, getD-take}
 use Rattle.laws.specs.Value.{Bytes}
 use Rattle.laws.proofs.Padded.{padded-at}
 use Rattle.bits.specs.Bits.{bitsOf, bytesOf}
-use Rattle.bits.proofs.Back.{length-bits, length-bytes, bits-bytes, bytes-bits, bytes-alike, take-bytes, padded-bit, bits-bytes-padded}
+use Rattle.bits.proofs.Back.{length-bits, length-bytes, bits-bytes, bytes-bits, bytes-alike, take-bytes, padded-bit}
 use Rattle.fec.specs.declared.Kind.{Kind}
 use Rattle.fec.specs.declared.Kind.the-variants.{Header, Stream, Packet}
 use Rattle.fec.specs.declared.Coded.{Coded}
-use Rattle.fec.specs.declared.Decoded.{Decoded}
 use Rattle.fec.specs.Code.{code, flushed}
 use Rattle.fec.specs.Nearest.{readOf}
 use Rattle.fec.specs.Kinds.{dataBytes, bitsIn, codedBytes, limitOf, sendsIn, encodedOf, decoded, found, decodedOf}
@@ -50,14 +49,6 @@ module _ (k : Kind) (d : List ℕ) (long : length d ≡ dataBytes k) where
       ap (decodedOf k) sent-bytes ∙ decoded-long k (bytesOf (codedBytes k) sent) (length-bytes (codedBytes k) sent)
       ∙ ap (λ (l : List Bool). found (readOf (sendsIn k) (bitsIn k) (limitOf k) l)) (bits-bytes (codedBytes k) sent length-sent)
       ∙ ap found (own-read (sendsIn k) (bitsIn k) (limitOf k) (take (bitsIn k) (bitsOf d)) (length-take-le (bitsIn k) (bitsOf d) enough))
-
-  -- so the first n bits come back
-  pub same-bits : take (bitsIn k) (bitsOf (decodedOf k (take (codedBytes k) (encodedOf k d .bytes)) .bytes)) ≡ take (bitsIn k) (bitsOf d)
-  same-bits =
-      let n = length-take-le (bitsIn k) (bitsOf d) enough in
-      ap (λ (r : Decoded). take (bitsIn k) (bitsOf (r .bytes))) reads-back
-      ∙ ap (take (bitsIn k)) (bits-bytes-padded 30 (240 - bitsIn k) (take (bitsIn k) (bitsOf d)) (omega (arith, fits k .few)))
-      ∙ take-at (take (bitsIn k) (bitsOf d)) (replicate (240 - bitsIn k) false) (bitsIn k) n
 
   -- and where the bits past them are zero, the bytes of the data, and zeros past these
   pub same-bytes : Bytes d → ((i : ℕ) → bitsIn k ≤ i → getD (bitsOf d) i false ≡ false)

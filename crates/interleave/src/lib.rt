@@ -1,11 +1,12 @@
 // Interleaving: bit i of 368 goes to place MAPPING[i].
 ghost use mathlib.Core.Path.{_≡_};
 ghost use mathlib.Core.Bool.{false};
-ghost use lib.ListN.{length, getD};
+ghost use Prim.Native.Nat.{_≤_, _<_};
+ghost use lib.ListN.{length, getD, drop};
 ghost use Rattle.laws.specs.Tabled.{tabled};
-ghost use Rattle.bits.specs.Bits.{bit, bitsOf, bytesOf};
+ghost use Rattle.bits.specs.Bits.{bit, bitsOf, byteOf, bytesOf};
 ghost use Rattle.interleave.specs.Interleave.{mapped, interleaved, interleavedOf};
-use bits::Bit;
+use bits::NextBit;
 use refusal::Refusal;
 use refusal::Verdict;
 
@@ -393,27 +394,61 @@ pub struct Interleaved {
     pub bytes: [u8; 46],
 }
 
-// The bit at a place, 0 past the bytes.
-fn bit_at(payload: &[u8], place: usize) -> u8
-    ensures { λ r. ⌜ r ≡ bit (getD (bitsOf (now (payload .entry))) place false) ⌝ }
-{
-    match bits::get_bit(payload, place) {
-        Bit::Value(b) => b,
-        Bit::Refused(_) => 0,
-    }
-}
-
-// Each bit is put at its place.
-fn placed_bits(payload: &[u8]) -> [u8; 46]
-    ensures { λ r. ⌜ r ≡ bytesOf 46 (interleaved (bitsOf (now (payload .entry)))) ⌝ }
+// Each bit in order is put at its place.
+fn placed_bits(payload: &[u8]) -> [bool; 368]
+    requires { ⌜ length (now payload) ≡ 46 ⌝ }
+    ensures { λ r. ⌜ r ≡ interleaved (bitsOf (now (payload .entry))) ⌝ }
 {
     let places = mapping();
-    let mut new = [0u8; 46];
-    for i in 0..368usize {
-        let b = bit_at(payload, i);
-        bits::set_bit(&mut new, places[i], b);
+    let mut new = [false; 368];
+    let mut at = 0;
+    while at < 368 {
+        let step = bits::next_bit(payload, at);
+        let bit = step.bit;
+        let NextBit::Value(b) = bit else {
+            return new;
+        };
+        new[places[at]] = b == 1;
+        at = step.place;
     }
     new
+}
+
+fn number(w: &[bool], k: usize) -> u8
+    requires { ⌜ k < length (now w) ⌝ }
+    ensures { λ r. ⌜ (r ≡ bit (getD (now (w .entry)) k false)) × (r ≤ 1) ⌝ }
+{
+    if w[k] {
+        return 1;
+    }
+    0
+}
+
+// The byte of the eight bits from j on.
+fn byte_at(w: &[bool], j: usize) -> u8
+    requires { ⌜ (length (now w) ≡ 368) × (j ≤ 360) ⌝ }
+    ensures { λ r. ⌜ r ≡ byteOf (drop j (now (w .entry))) ⌝ }
+{
+    let a = number(w, j);
+    let b = number(w, j + 1);
+    let c = number(w, j + 2);
+    let d = number(w, j + 3);
+    let e = number(w, j + 4);
+    let f = number(w, j + 5);
+    let g = number(w, j + 6);
+    let h = number(w, j + 7);
+    128 * a + 64 * b + 32 * c + 16 * d + 8 * e + 4 * f + 2 * g + h
+}
+
+fn packed(w: &[bool]) -> [u8; 46]
+    requires { ⌜ length (now w) ≡ 368 ⌝ }
+    ensures { λ r. ⌜ r ≡ bytesOf 46 (now (w .entry)) ⌝ }
+{
+    let mut out = [0u8; 46];
+    for i in 0..46 {
+        out[i] = byte_at(w, 8 * i);
+    }
+    out
 }
 
 pub fn interleave(payload: &[u8]) -> Interleaved
@@ -425,8 +460,9 @@ pub fn interleave(payload: &[u8]) -> Interleaved
             bytes: [0u8; 46],
         };
     }
+    let placed = placed_bits(payload);
     Interleaved {
         answer: Verdict::Done,
-        bytes: placed_bits(payload),
+        bytes: packed(&placed),
     }
 }

@@ -1,6 +1,7 @@
 pub mod Every
 pub mod Values
 pub mod InPlace
+pub mod Pasted
 pub mod Xor
 pub mod Divide
 pub mod Number

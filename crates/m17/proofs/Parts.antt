@@ -1,9 +1,7 @@
 -- Gathered parts: how many flags there can be, and lent memory after a part was set or a header assembled. Assumes nothing.
 use mathlib.Core.Path.{_≡_, sym, ap, _∙_}
-use mathlib.Core.Bool.{Bool, true, false}
-use mathlib.Core.List.{List, [], _∷_}
-use Prim.Native.Nat.{ℕ, _≤_}
-use native.Mathlib.Omega.{arith}
+use mathlib.Core.List.{List}
+use Prim.Native.Nat.{ℕ}
 use lib.ListN.{length}
 use borrow.Author.Tests.{eq-eqb}
 use Rattle.laws.proofs.Values.{length-tabled}
@@ -13,16 +11,10 @@ use Rattle.refusal.specs.declared.Verdict.the-variants.{Done}
 use Rattle.protocol.specs.declared.Assembled.{Assembled}
 use Rattle.protocol.specs.declared.Assembly.the-variants.{Header, NotYet}
 use Rattle.protocol.specs.declared.Collected.{Collected}
-use Rattle.protocol.specs.Lich.{flagsSet, assembledNumber}
+use Rattle.protocol.specs.Lich.{assembledNumber}
 use Rattle.m17.specs.Given.{bytesGiven, numberGiven}
 use Rattle.m17.specs.Gathered.{flagBytes, bothLong, allLong, assembledGiven}
 use Rattle.m17.proofs.Lent.{Lent}
-
-pub few : (l : List Bool) → flagsSet l ≤ length l
-unfolding flagsSet
-few [] = omega arith
-few (true ∷ l) = let h = few l in omega arith
-few (false ∷ l) = let h = few l in omega arith
 
 -- a buffer of the right length
 right : (n : ℕ) (old : List ℕ) (v : Verdict) (b : List ℕ) (r : ℕ) (o : List ℕ) → length old ≡ n → Lent n old v b r o → (r ≡ saidOf v) × (o ≡ bytesGiven v b old)

@@ -10,6 +10,8 @@ use Rattle.refusal.specs.declared.Verdict.{Verdict}
 use Rattle.refusal.specs.declared.Verdict.the-variants as verdict
 use Rattle.bits.specs.declared.Bit.{Bit}
 use Rattle.bits.specs.declared.Bit.the-variants as bit
+use Rattle.bits.specs.declared.NextBit.{NextBit}
+use Rattle.bits.specs.declared.NextBit.the-variants as next
 use Rattle.address.specs.declared.Address.{Address}
 use Rattle.address.specs.declared.Heard.{Heard}
 use Rattle.address.specs.declared.Heard.the-variants as heard
@@ -21,6 +23,15 @@ use Rattle.golay.specs.declared.Reading.the-variants as reading
 abbrev pub bitGiven : Bit → ℕ → ℕ
 bitGiven (bit.Value b) old = b
 bitGiven (bit.Refused why) old = old
+
+-- 1 with a bit, 0 at the end
+abbrev pub readNumber : NextBit → ℕ
+readNumber (next.Value b) = 1
+readNumber next.End = 0
+
+abbrev pub nextGiven : NextBit → ℕ → ℕ
+nextGiven (next.Value b) old = b
+nextGiven next.End old = old
 
 abbrev pub bytesGiven : {A : Type 0} → Verdict → List A → List A → List A
 bytesGiven verdict.Done bytes old = bytes

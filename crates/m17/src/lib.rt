@@ -5,12 +5,13 @@ ghost use lib.ListN.{length};
 ghost use Rattle.refusal.specs.Number.{saidOf};
 ghost use Rattle.bits.specs.Bits.{bit};
 ghost use Rattle.bits.specs.Places.{getOf, setOf, withBit, numberOfBit};
+ghost use Rattle.bits.specs.Reader.{nextOf, stepOf};
 ghost use Rattle.crc.specs.Crc.{crcFrom, crc};
 ghost use Rattle.random.specs.Random.{xored};
 ghost use Rattle.interleave.specs.Interleave.{interleavedOf};
 ghost use Rattle.address.specs.Address.{decodedOf as addressReadOf, numberOfHeard, unwritten};
 ghost use Rattle.golay.specs.Golay.{encodedOf, decodedOf, numberOfCodeword, numberOfReading};
-ghost use Rattle.m17.specs.Given.{bitGiven, numberGiven, lentSaid, lentBytes, wordGiven, dataGiven, heardInto, heardGiven, charactersGiven};
+ghost use Rattle.m17.specs.Given.{bitGiven, readNumber, nextGiven, numberGiven, lentSaid, lentBytes, wordGiven, dataGiven, heardInto, heardGiven, charactersGiven};
 ghost use Rattle.m17.specs.Fec.{kindFor, codedOf, kindReadOf};
 ghost use Rattle.m17.specs.Addresses.{addressKind, reservedOf, addressFor, addressWrittenOf};
 
@@ -23,6 +24,7 @@ use address::Address;
 use address::Heard;
 use address::Written;
 use bits::Bit;
+use bits::NextBit;
 use fec::Coded;
 use fec::Decoded;
 use fec::Kind;
@@ -113,6 +115,25 @@ pub extern "C" fn m17_set_bit(bytes: &mut [u8], place: usize, value: u8) -> u8
     ensures { λ r. ⌜ (r ≡ saidOf (setOf (now (bytes .entry)) place)) × (now (bytes .exit) ≡ withBit (now (bytes .entry)) place value) ⌝ }
 {
     refusal::said(bits::set_bit(bytes, place, value))
+}
+
+// The end is no refusal: `read` is 1 with a bit, 0 at the end.
+#[no_mangle]
+pub extern "C" fn m17_next_bit(bytes: &[u8], place: &mut usize, read: &mut u8, out: &mut u8)
+    ensures { λ r. ⌜ (now (place .exit) ≡ stepOf (now (bytes .entry)) (now (place .entry)) .place) × (now (read .exit) ≡ readNumber (nextOf (now (bytes .entry)) (now (place .entry)))) × (now (out .exit) ≡ nextGiven (nextOf (now (bytes .entry)) (now (place .entry))) (now (out .entry))) ⌝ }
+{
+    let step = bits::next_bit(bytes, *place);
+    *place = step.place;
+    let bit = step.bit;
+    match bit {
+        NextBit::Value(b) => {
+            *read = 1;
+            *out = b;
+        }
+        NextBit::End => {
+            *read = 0;
+        }
+    }
 }
 
 #[no_mangle]

@@ -155,7 +155,7 @@ unfolding flagsSet
 flags-all [] a = refl
 flags-all (b ∷ l) a = ap (λ (t : Bool). cond t (suc (flagsSet l)) (flagsSet l)) (a 0 (omega arith)) ∙ ap suc (flags-all l (λ k h. a (suc k) (omega arith)))
 
-flags-le : (l : List Bool) → flagsSet l ≤ length l
+pub flags-le : (l : List Bool) → flagsSet l ≤ length l
 unfolding flagsSet
 flags-le [] = omega arith
 flags-le (true ∷ l) = omega (arith, flags-le l)

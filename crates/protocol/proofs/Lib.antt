@@ -1,5 +1,4 @@
 pub mod Bits
-pub mod Pasted
 pub mod Whole
 pub mod Held
 pub mod TypeBits

@@ -13,7 +13,7 @@ use Rattle.refusal.specs.declared.Verdict.the-variants.{Done}
 use Rattle.laws.specs.Value.{valueOf, inBytes}
 use Rattle.laws.proofs.Every.{every, every-at}
 use Rattle.laws.proofs.Number.{bytes-of-value}
-use Rattle.laws.proofs.Bytes.{bytes-take}
+use Rattle.laws.proofs.Bytes.{bytes-take, bytes-drop}
 use Rattle.address.specs.declared.Address.{Address}
 use Rattle.address.specs.Address.{addressValue, encodedOf, decodedOf}
 use Rattle.address.proofs.RoundTrip.{readBack, written-then-read}
@@ -26,7 +26,7 @@ use Rattle.protocol.specs.declared.EncryptionType.the-variants.{None, Sc
 use Rattle.protocol.specs.Numbers.{modeNumber, modeOf, dataNumber, dataOf, encryptionNumber, encryptionOf}
 use Rattle.protocol.specs.Fields.{Place, bytesFrom, destinationBytes, sourceBytes, modeBits, dataBits, encryptionBits, channelBits, metaBytes, field, setField}
 use Rattle.protocol.proofs.Bits.{Apart}
-use Rattle.protocol.proofs.Whole.{Thirty, bytes-drop, field-bytes}
+use Rattle.protocol.proofs.Whole.{Thirty, field-bytes}
 use Rattle.protocol.proofs.Written.{accepted-small, accepted-bytes}
 use Rattle.protocol.proofs.Setters.{Inside, Sets, sets, set-swap}
 

@@ -1,17 +1,16 @@
 -- A header's thirty bytes and the number of its fields, each from the other. Assumes nothing.
 use mathlib.Core.Path.{_≡_, refl, sym, ap, ap₂, _∙_, subst}
 use mathlib.Core.List.{List, [], _∷_, _++_, append-nil}
-use Prim.Native.Nat.{ℕ, zero, suc, _+_, _-_, _*_, _/_, _%_, _^_, _<_, _≤_}
-use native.Mathlib.Nat.{pow-suc, mod-lt, one-le-pow, div-one, div-lt-iff-lt-mul}
+use Prim.Native.Nat.{ℕ, _+_, _-_, _*_, _/_, _%_, _^_, _<_, _≤_}
+use native.Mathlib.Nat.{div-one}
 use native.Mathlib.Omega.{arith}
-use lib.Dec.{lit<}
 use lib.ListN.{length, getD, replicate, take, drop, set, length-append, length-drop, drop-of-length-le}
 use lib.Seq.{sets-eq, take-at, take-add, take-append-add, length-take-le, drop-cons}
 use Rattle.laws.specs.Value.{valueOf, inBytes, Bytes}
 use Rattle.laws.proofs.Number.{value-lt, length-in-bytes, bytes-of-value, value-of-bytes, value-append, bits-of-bytes}
 use Rattle.crc.specs.Crc.{crc}
 use Rattle.crc.proofs.Own.{two, crc-own, crc-lt}
-use Rattle.laws.proofs.Bytes.{bytes-append, bytes-take, bytes-in-bytes}
+use Rattle.laws.proofs.Bytes.{bytes-append, bytes-take, bytes-drop, bytes-zeros, bytes-in-bytes}
 use Rattle.protocol.specs.Fields.{bitsAt, withBits, bytesFrom, typeBytes, fieldsOf, field, renewed}
 use Rattle.protocol.proofs.Bits.{read-parts, put-parts}
 
@@ -21,19 +20,7 @@ pub record Thirty (s : List ℕ) : Type 0 where
   pub bytes : Bytes s
 
 pub zeros : Thirty (replicate 30 0)
-zeros = record { long = refl; bytes = λ k. zero-at 30 k }
-  where
-    zero-at : (n k : ℕ) → getD (replicate n 0) k 0 < 256
-    zero-at zero k = lit< tt
-    zero-at (suc n) zero = lit< tt
-    zero-at (suc n) (suc k) = zero-at n k
-
--- ---- bytes
-
-pub bytes-drop : (n : ℕ) (s : List ℕ) → Bytes s → Bytes (drop n s)
-bytes-drop zero s h k = h k
-bytes-drop (suc n) [] h k = lit< tt
-bytes-drop (suc n) (x ∷ s) h k = bytes-drop n s (λ j. h (suc j)) k
+zeros = record { long = refl; bytes = bytes-zeros 30 }
 
 two-bytes : (n : ℕ) → inBytes 2 n ≡ two n
 unfolding inBytes

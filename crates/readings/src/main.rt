@@ -5,7 +5,8 @@ use bits::Bit;
 use encode::Body;
 use golay::Codeword;
 use golay::Reading;
-use libc::STDOUT_FILENO;
+use print::bytes;
+use print::text;
 use protocol::PacketFrameCounter;
 use refusal::Verdict;
 
@@ -13,25 +14,14 @@ fn wide(x: u8) -> u64 {
     x as u64
 }
 
-fn text(s: &[u8]) {
-    io::write_all(STDOUT_FILENO, s);
-}
-
 fn number(n: u64, width: usize) {
     text(b" ");
-    io::print_hex(STDOUT_FILENO, n, width);
-}
-
-fn bytes(s: &[u8]) {
-    text(b" ");
-    for i in 0..s.len() {
-        io::print_hex(STDOUT_FILENO, wide(s[i]), 2);
-    }
+    print::hex(n, width);
 }
 
 fn refused(n: u8) {
     text(b" refused ");
-    io::print_decimal(STDOUT_FILENO, wide(n));
+    print::decimal(wide(n));
 }
 
 fn end() {
@@ -196,14 +186,14 @@ fn body(label: &[u8], b: Body) {
 fn packet_frame(index: usize) {
     let counter = PacketFrameCounter::Frame { index };
     text(b"packet frame ");
-    io::print_decimal(STDOUT_FILENO, index as u64);
+    print::decimal(index as u64);
     body(b" of zeros:", encode::write_packet(counter, &[0u8; 25]));
 }
 
 fn final_frame(payload_len: usize) {
     let counter = PacketFrameCounter::FinalFrame { payload_len };
     text(b"final frame of ");
-    io::print_decimal(STDOUT_FILENO, payload_len as u64);
+    print::decimal(payload_len as u64);
     body(b" zeros:", encode::write_packet(counter, &[0u8; 25]));
 }
 

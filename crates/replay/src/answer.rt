@@ -27,14 +27,7 @@ impl Answer {
 
     pub fn bytes(self, s: &[u8]) -> Answer {
         let mut bytes = self.bytes;
-        let mut len = self.len;
-        for i in 0..s.len() {
-            if ROOM <= len {
-                break;
-            }
-            bytes[len] = s[i];
-            len += 1;
-        }
+        let len = print::append(&mut bytes, self.len, s);
         Answer { bytes, len }
     }
 

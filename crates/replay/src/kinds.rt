@@ -1,9 +1,5 @@
 // The nine kinds of records, numbered as in the file.
-use libc::STDOUT_FILENO;
-
-pub fn text(s: &[u8]) {
-    io::write_all(STDOUT_FILENO, s);
-}
+use print::text;
 
 pub fn name(kind: u8) {
     match kind {

@@ -13,22 +13,6 @@ pub enum Found {
     Unknown,
 }
 
-// Reads until the bytes are full, the input ends or a read fails, and answers how many came. Each turn brings one or more.
-pub fn fill(fd: i32, to: &mut [u8]) -> usize {
-    let mut done = 0;
-    for turn in 0..to.len() {
-        let got = libc::read(fd, &mut to[done..]);
-        if got <= 0 {
-            return done;
-        }
-        done += io::count(got, &to[done..]);
-        if done == to.len() {
-            return done;
-        }
-    }
-    done
-}
-
 fn compared(ours: Answer, recorded: &[u8]) -> Found {
     if !ours.is(recorded) {
         return Found::Different;
@@ -41,7 +25,7 @@ fn compared(ours: Answer, recorded: &[u8]) -> Found {
 
 fn header_read(fd: i32) -> Found {
     let mut record = [0u8; 77];
-    if fill(fd, &mut record) != 77 {
+    if io::read_full(fd, &mut record) != 77 {
         return Found::Cut;
     }
     compared(asked::header_read(&record[0..46]), &record[46..])
@@ -49,7 +33,7 @@ fn header_read(fd: i32) -> Found {
 
 fn stream_read(fd: i32) -> Found {
     let mut record = [0u8; 72];
-    if fill(fd, &mut record) != 72 {
+    if io::read_full(fd, &mut record) != 72 {
         return Found::Cut;
     }
     compared(asked::stream_read(&record[0..46]), &record[46..])
@@ -57,7 +41,7 @@ fn stream_read(fd: i32) -> Found {
 
 fn packet_read(fd: i32) -> Found {
     let mut record = [0u8; 74];
-    if fill(fd, &mut record) != 74 {
+    if io::read_full(fd, &mut record) != 74 {
         return Found::Cut;
     }
     compared(asked::packet_read(&record[0..46]), &record[46..])
@@ -65,7 +49,7 @@ fn packet_read(fd: i32) -> Found {
 
 fn header_written(fd: i32) -> Found {
     let mut record = [0u8; 77];
-    if fill(fd, &mut record) != 77 {
+    if io::read_full(fd, &mut record) != 77 {
         return Found::Cut;
     }
     compared(asked::header_written(&record[0..30]), &record[30..])
@@ -73,7 +57,7 @@ fn header_written(fd: i32) -> Found {
 
 fn stream_written(fd: i32) -> Found {
     let mut record = [0u8; 72];
-    if fill(fd, &mut record) != 72 {
+    if io::read_full(fd, &mut record) != 72 {
         return Found::Cut;
     }
     compared(asked::stream_written(record), &record[25..])
@@ -81,7 +65,7 @@ fn stream_written(fd: i32) -> Found {
 
 fn packet_written(fd: i32) -> Found {
     let mut record = [0u8; 74];
-    if fill(fd, &mut record) != 74 {
+    if io::read_full(fd, &mut record) != 74 {
         return Found::Cut;
     }
     compared(asked::packet_written(record), &record[27..])
@@ -89,7 +73,7 @@ fn packet_written(fd: i32) -> Found {
 
 fn address_read(fd: i32) -> Found {
     let mut record = [0u8; 23];
-    if fill(fd, &mut record) != 23 {
+    if io::read_full(fd, &mut record) != 23 {
         return Found::Cut;
     }
     compared(asked::address_read(&record[0..6]), &record[6..])
@@ -97,7 +81,7 @@ fn address_read(fd: i32) -> Found {
 
 fn address_written(fd: i32) -> Found {
     let mut record = [0u8; 23];
-    if fill(fd, &mut record) != 23 {
+    if io::read_full(fd, &mut record) != 23 {
         return Found::Cut;
     }
     compared(asked::address_written(record), &record[16..])
@@ -105,7 +89,7 @@ fn address_written(fd: i32) -> Found {
 
 fn header_set(fd: i32) -> Found {
     let mut record = [0u8; 78];
-    if fill(fd, &mut record) != 78 {
+    if io::read_full(fd, &mut record) != 78 {
         return Found::Cut;
     }
     compared(asked::header_set(record), &record[47..])

@@ -1,10 +1,8 @@
 // A file of records, asked again one after another to its end.
 use crate::kinds;
-use crate::kinds::text;
 use crate::records::Found;
 use crate::records::asked_again;
-use crate::records::fill;
-use libc::STDOUT_FILENO;
+use print::text;
 
 // Where the replaying stands: the next record's place in the file; at place k of the counts, those of kind k; whether no record differs yet.
 struct Progress {
@@ -30,7 +28,7 @@ fn one_more(counts: [u64; 9], kind: u8) -> [u64; 9] {
 
 fn field(label: &[u8], n: u64) {
     text(label);
-    io::print_decimal(STDOUT_FILENO, n);
+    print::decimal(n);
 }
 
 // What befell a record, and where it begins.
@@ -103,7 +101,7 @@ impl Progress {
 
     fn turn(self, fd: i32) -> Progress {
         let mut first = [0u8; 1];
-        if fill(fd, &mut first) == 0 {
+        if io::read_full(fd, &mut first) == 0 {
             return self.stopped();
         }
         let kind = first[0];
@@ -138,7 +136,7 @@ fn head(fd: i32) -> u64 {
     let mut one = [0u8; 1];
     let mut n = 0;
     while n < 1000 {
-        if fill(fd, &mut one) == 0 {
+        if io::read_full(fd, &mut one) == 0 {
             break;
         }
         n += 1;

@@ -1,5 +1,5 @@
 // Scripts of slots, each fed to one receiver from its start, from the compiled code. What it writes is held to the file stdout, which
-// scripts/expected.py made from document 01 alone.
+// expected.py beside it made from document 01 alone.
 mod damage;
 mod packets;
 mod run;

@@ -46,13 +46,13 @@ fn receive_cut(receiver: Receiver, slot: [u8; 48], len: usize, room: usize) -> R
 impl Run {
     // A receiver at its start, and a packet of so many bytes to send, if any.
     pub fn start(label: &[u8], total: usize) -> Run {
-        show::text(b"# ");
-        show::text(label);
+        print::text(b"# ");
+        print::text(label);
         if 0 < total {
             show::counted(b" of ", total);
-            show::text(b" bytes");
+            print::text(b" bytes");
         }
-        show::text(b"\n");
+        print::text(b"\n");
         Run {
             receiver: Receiver::new(),
             memory: [0xA5u8; 825],
@@ -78,16 +78,16 @@ impl Run {
         let parts = slots::littered(known, kept, fill);
         let made = Receiver { phase, parts };
         self.receiver = made;
-        show::text(b"state by hand");
+        print::text(b"state by hand");
         show::state(made);
-        show::text(b"\n");
+        print::text(b"\n");
         self
     }
 
     // In the next slot so many coded bits are flipped, from the first by steps.
     pub fn flipped(mut self, first: u8, step: u8, flips: usize) -> Run {
-        show::decimal(flips);
-        show::text(b" flips, ");
+        print::decimal(flips as u64);
+        print::text(b" flips, ");
         self.first = first;
         self.step = step;
         self.flips = flips;
@@ -96,9 +96,9 @@ impl Run {
 
     // In the next slot the last word of the LICH has other data.
     pub fn twisted(mut self, value: u16) -> Run {
-        show::text(b"twist ");
-        show::hex(value, 3);
-        show::text(b", ");
+        print::text(b"twist ");
+        print::hex(value as u64, 3);
+        print::text(b", ");
         self.twist = value;
         self
     }
@@ -119,7 +119,7 @@ impl Run {
 
     // A sender's header with these type bits, its CRC xored with `spoil`.
     pub fn header(self, sender: u8, kind: u8, spoil: u8) -> Run {
-        show::text(b"header");
+        print::text(b"header");
         self.slot(slots::header_slot(slots::header(sender, kind, spoil)))
     }
 
@@ -152,9 +152,9 @@ impl Run {
 
     // Frame k as a final frame made by hand, of any length below 32.
     pub fn hand(self, k: usize, len: u8) -> Run {
-        show::text(b"final by hand ");
+        print::text(b"final by hand ");
         let n = len % 32;
-        show::decimal(n as usize);
+        print::decimal(n as u64);
         let sent = self.sent;
         self.slot(slots::raw_slot(sent, k, 128 + n * 4))
     }
@@ -194,15 +194,15 @@ impl Run {
 
     // The body that an all-zero header, stream or packet frame 0 has, under any sync word.
     pub fn zeros(self, sync: u16) -> Run {
-        show::text(b"zeros ");
-        show::hex(sync, 4);
+        print::text(b"zeros ");
+        print::hex(sync as u64, 4);
         self.slot(slots::zeros(sync))
     }
 
     // Any sync word, and a body all of one byte.
     pub fn sync(self, word: u16, body: u8) -> Run {
-        show::text(b"sync ");
-        show::hex(word, 4);
+        print::text(b"sync ");
+        print::hex(word as u64, 4);
         self.slot(slots::slot(word, [body; 46]))
     }
 

@@ -1,5 +1,6 @@
 // What the receiver answers, which state comes next and what became of memory, in words and hex.
-use libc::STDOUT_FILENO;
+use print::bytes;
+use print::text;
 use protocol::StreamFrame;
 use receiver::Answer;
 use receiver::Late;
@@ -10,29 +11,10 @@ fn wide(x: u8) -> u64 {
     x as u64
 }
 
-pub fn text(s: &[u8]) {
-    io::write_all(STDOUT_FILENO, s);
-}
-
-pub fn decimal(n: usize) {
-    io::print_decimal(STDOUT_FILENO, n as u64);
-}
-
-pub fn hex(n: u16, width: usize) {
-    io::print_hex(STDOUT_FILENO, n as u64, width);
-}
-
 // A word and a number.
 pub fn counted(label: &[u8], n: usize) {
     text(label);
-    decimal(n);
-}
-
-pub fn bytes(s: &[u8]) {
-    text(b" ");
-    for i in 0..s.len() {
-        io::print_hex(STDOUT_FILENO, wide(s[i]), 2);
-    }
+    print::decimal(n as u64);
 }
 
 fn blank(s: &[u8]) -> bool {
@@ -64,10 +46,10 @@ fn packet(memory: &[u8], total: usize) {
 fn fields(stream: StreamFrame) {
     let part = stream.lich_part;
     let content = stream.stream_data;
-    io::print_decimal(STDOUT_FILENO, wide(stream.lich_idx));
+    print::decimal(wide(stream.lich_idx));
     bytes(&part);
     text(b" number ");
-    hex(stream.frame_number, 4);
+    print::hex(stream.frame_number as u64, 4);
     bytes(&content);
     if stream.end_of_stream {
         text(b" last");
@@ -93,7 +75,7 @@ fn plain(said: Answer, memory: &[u8]) {
         Answer::Ended => text(b"end"),
         Answer::Refused(why) => {
             text(b"refused ");
-            io::print_decimal(STDOUT_FILENO, wide(refusal::number(why)));
+            print::decimal(wide(refusal::number(why)));
         }
         _ => {}
     }

@@ -3,15 +3,18 @@ use crate::part::before_spaces;
 use crate::part::within;
 use libc::STDOUT_FILENO;
 
-// The longest line has 823 bytes of a packet in hex.
-const ROOM: usize = 2048;
-
 const DIGITS: [u8; 16] = *b"0123456789abcdef";
 
-// The first `len` of the bytes. What finds no room is left out.
+// The first `len` of the bytes. What finds no room is left out; the longest line has 823 bytes of a packet in hex.
 pub struct Line {
     bytes: [u8; 2048],
     len: usize,
+}
+
+// How a byte is shown.
+enum Shown {
+    Digits,
+    Printable,
 }
 
 fn digit(n: u8) -> u8 {
@@ -19,7 +22,7 @@ fn digit(n: u8) -> u8 {
 }
 
 // A dot for what is not printable ASCII.
-fn shown(c: u8) -> u8 {
+fn printable(c: u8) -> u8 {
     if c < b' ' {
         return b'.';
     }
@@ -45,14 +48,7 @@ impl Line {
     // The bytes as they are.
     pub fn text(self, s: &[u8]) -> Line {
         let mut bytes = self.bytes;
-        let mut len = self.len;
-        for i in 0..s.len() {
-            if ROOM <= len {
-                break;
-            }
-            bytes[len] = s[i];
-            len += 1;
-        }
+        let len = print::append(&mut bytes, self.len, s);
         Line { bytes, len }
     }
 
@@ -62,34 +58,31 @@ impl Line {
         self.text(&s[..n])
     }
 
+    // One byte more.
+    fn byte(self, how: Shown, c: u8) -> Line {
+        match how {
+            Shown::Digits => self.text(&[digit(c / 16), digit(c % 16)]),
+            Shown::Printable => self.text(&[printable(c)]),
+        }
+    }
+
+    fn each(self, how: Shown, s: &[u8]) -> Line {
+        let mut line = self;
+        for i in 0..s.len() {
+            let next = line.byte(how, s[i]);
+            line = next;
+        }
+        line
+    }
+
     // The bytes as printable text.
     pub fn printable(self, s: &[u8]) -> Line {
-        let mut bytes = self.bytes;
-        let mut len = self.len;
-        for i in 0..s.len() {
-            if ROOM <= len {
-                break;
-            }
-            bytes[len] = shown(s[i]);
-            len += 1;
-        }
-        Line { bytes, len }
+        self.each(Shown::Printable, s)
     }
 
     // Two digits for each byte.
     pub fn hex(self, s: &[u8]) -> Line {
-        let mut bytes = self.bytes;
-        let mut len = self.len;
-        for i in 0..s.len() {
-            if ROOM - 1 <= len {
-                break;
-            }
-            let c = s[i];
-            bytes[len] = digit(c / 16);
-            bytes[len + 1] = digit(c % 16);
-            len += 2;
-        }
-        Line { bytes, len }
+        self.each(Shown::Digits, s)
     }
 
     pub fn decimal(self, n: u64) -> Line {

@@ -1,16 +1,16 @@
 -- `encode::copy` meets its contract: after i turns i elements are copied. Assumes nothing.
-use mathlib.Core.Path.{_≡_, refl, ap, _∙_}
-use mathlib.Core.List.{List}
-use Prim.Native.Nat.{ℕ, _+_, _-_, _≤_}
+use mathlib.Core.Path.{_≡_, refl}
+use Prim.Native.Nat.{_-_, _≤_}
 use native.Mathlib.Omega.{arith}
-use lib.ListN.{length, getD, set, length-set}
-use Rattle.encode.proofs.Copied.{copied, copied-none, copied-more, copied-all}
+use lib.ListN.{length, length-set}
+use lib.Seq.{paste, paste-zero}
+use Rattle.laws.proofs.Pasted.{paste-more, paste-all}
 use Rattle.encode.proofs.copy.Statement.{statement}
 use Rattle.encode.proofs.copy.Tie as tie
 
 abbrev Inv-loop : tie.InvT-loop
 Inv-loop to₀ at from i₀ i-end to i =
-    (i ≤ i-end) × (i-end ≡ length from) × (length to ≡ length to₀) × (to ≡ copied to₀ at from i)
+    (i ≤ i-end) × (i-end ≡ length from) × (length to ≡ length to₀) × (to ≡ paste to₀ at from i)
 
 abbrev μ-loop : tie.MeasureT-loop
 μ-loop to₀ at from i₀ i-end to i = i-end - i
@@ -18,7 +18,7 @@ abbrev μ-loop : tie.MeasureT-loop
 loop-holds : tie.Need-loop-holds Inv-loop μ-loop
 loop-holds c =
     let a = c .args in
-    (omega arith, refl, refl, copied-none (a .to .now) (a .at) (a .from .now) (omega arith))
+    (omega arith, refl, refl, paste-zero (a .to .now) (a .at) (a .from .now))
 
 shared-slice-read-to : tie.Need-shared-slice-read-to Inv-loop μ-loop
 shared-slice-read-to c = omega arith
@@ -42,8 +42,7 @@ loop-again c =
       omega arith,
       refl,
       simp length-set (l .inv .2),
-      ap (λ (t : List ℕ). set t (a .at + l .i) (getD (a .from .now) (l .i) 0)) (l .inv .3)
-          ∙ copied-more (a .to .now) (a .at) (a .from .now) (omega arith) (l .i) (omega arith),
+      paste-more (a .to .now) (l .to) (a .from .now) (a .at) (l .i) (omega arith) (omega arith) (l .inv .3),
     )
 
 same-length : tie.Need-same-length Inv-loop μ-loop
@@ -53,7 +52,7 @@ returns : tie.Need-returns Inv-loop μ-loop
 returns c =
     let l = c .before .loop in
     let a = c .before .before .args in
-    l .inv .3 ∙ copied-all (a .to .now) (a .at) (a .from .now) (omega arith) (l .i) (omega arith)
+    paste-all (a .to .now) (l .to) (a .from .now) (a .at) (l .i) _ refl (omega arith) (l .inv .3)
 
 pub copy-spec : {M : Type 1} → statement M
 copy-spec =

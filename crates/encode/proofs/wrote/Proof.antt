@@ -1,12 +1,20 @@
 -- `encode::wrote` meets its contract: 46 bytes are never refused. Assumes nothing.
-use mathlib.Core.Path.{ap, _∙_}
+use mathlib.Core.Path.{_≡_, ap, _∙_}
+use mathlib.Core.List.{List}
+use Prim.Native.Nat.{ℕ}
+use lib.ListN.{length}
+use borrow.Author.Tests.{eq-eqb}
 use Rattle.interleave.specs.declared.Interleaved.{Interleaved}
+use Rattle.interleave.specs.Interleave.{interleavedOf}
 use Rattle.random.specs.Random.{xored}
-use Rattle.encode.specs.Bodies.{written}
-use Rattle.encode.proofs.Masked.{masked-is}
+use Rattle.encode.specs.Bodies.{masked, written}
 use borrow.Author.Needs.{needs}
 use Rattle.encode.proofs.wrote.Statement.{statement}
 use Rattle.encode.proofs.wrote.Tie as tie
+
+masked-is : (s : List ℕ) → length s ≡ 46 → xored (interleavedOf s .bytes) ≡ masked s
+unfolding masked interleavedOf
+masked-is s e = simp (eq-eqb (length s) 46 e)
 
 slice-aggregate-interleave : tie.Need-slice-aggregate-interleave
 slice-aggregate-interleave c = search needs

@@ -1,54 +1,67 @@
--- `golay::word_of` meets its contract. Assumes nothing.
-use mathlib.Core.Path.{sym, subst}
-use Prim.Native.Nat.{ℕ, _-_, _<_}
+-- `golay::word_of` meets its contract: the code is linear. Assumes nothing.
+use mathlib.Core.Path.{_≡_, sym, ap, ap₂, _∙_}
+use mathlib.Core.List.{List}
+use Prim.Native.Nat.{ℕ, _+_, _*_, _/_, _%_, _<_}
+use native.Mathlib.Nat.{mod-lt}
 use native.Mathlib.Omega.{arith}
-use lib.Count.{ones-le}
+use lib.Dec.{lit<}
+use lib.Bits.{bitXor, xor-shifted}
+use lib.ListN.{getD}
+use Rattle.laws.specs.Tabled.{tabled}
+use Rattle.laws.proofs.Values.{tabled-at}
 use Rattle.golay.specs.Golay.{golay}
-use Rattle.golay.proofs.Linear.{check-lt}
-use Rattle.laws.proofs.Xor.{ones-in}
+use Rattle.golay.proofs.Linear.{golay-xor}
 use borrow.Author.Needs.{needs}
 use Rattle.golay.proofs.word_of.Statement.{statement}
 use Rattle.golay.proofs.word_of.Tie as tie
 
--- what is known of the remainder
-result-lt : (c : tie.After-remainder) → c .remainder .result < 2048
-result-lt c = subst (λ (n : ℕ). n < 2048) (sym (c .remainder .ensures)) (check-lt (c .before .args .value) (c .before .pre))
+in-parts : (v : ℕ) → v < 4096 → bitXor (golay (v / 64 * 64)) (golay (v % 64)) ≡ golay v
+in-parts v h =
+    let e : v / 64 * 64 + v % 64 ≡ v = omega arith in
+    sym (golay-xor (v / 64 * 64) (v % 64) (omega arith) (omega arith)) ∙ ap golay (xor-shifted (v / 64) 6 (v % 64) (mod-lt v (lit< tt)) ∙ e)
 
-mul-remainder : tie.Need-mul-remainder
-mul-remainder c = search needs
+upper-requires : tie.Need-upper-requires
+upper-requires c κs = search needs
 
-remainder-requires : tie.Need-remainder-requires
-remainder-requires c κs = search needs
+lower-requires : tie.Need-lower-requires
+lower-requires c κs = search needs
+
+cast-result : tie.Need-cast-result
+cast-result c = search needs
 
 mul-result : tie.Need-mul-result
 mul-result c = search needs
 
+array-read-result : tie.Need-array-read-result
+array-read-result c = search needs
+
+cast-result-2 : tie.Need-cast-result-2
+cast-result-2 c = search needs
+
 mul-result-2 : tie.Need-mul-result-2
-mul-result-2 c = omega (arith, result-lt c, ones-le 12 (c .before .args .value) (c .before .pre), ones-le 11 (c .remainder .result) (result-lt c))
+mul-result-2 c = search needs
 
-add-result : tie.Need-add-result
-add-result c = omega (arith, result-lt c, ones-le 12 (c .before .args .value) (c .before .pre), ones-le 11 (c .remainder .result) (result-lt c))
-
-add-result-2 : tie.Need-add-result-2
-add-result-2 c = omega (arith, result-lt c, ones-le 12 (c .before .args .value) (c .before .pre), ones-le 11 (c .remainder .result) (result-lt c))
-
-add-result-3 : tie.Need-add-result-3
-add-result-3 c = omega (arith, result-lt c, ones-le 12 (c .before .args .value) (c .before .pre), ones-le 11 (c .remainder .result) (result-lt c))
+array-read-result-2 : tie.Need-array-read-result-2
+array-read-result-2 c = search needs
 
 returns : tie.Need-returns
-unfolding golay
 returns c =
-    rw (ones-in 12 (c .before .args .value) (c .before .pre), ones-in 11 (c .remainder .result) (result-lt c), c .remainder .ensures)
+    let v = c .before .before .args .value in
+    let h : v < 4096 = c .before .before .pre in
+    let up : getD (c .before .upper .result) (v / 64) 0 ≡ golay (v / 64 * 64) = ap (λ (t : List ℕ). getD t (v / 64) 0) (c .before .upper .ensures) ∙ tabled-at (λ (k : ℕ). golay (k * 64)) 64 (v / 64) 0 (omega arith) in
+    let low : getD (c .lower .result) (v % 64) 0 ≡ golay (v % 64) = ap (λ (t : List ℕ). getD t (v % 64) 0) (c .lower .ensures) ∙ tabled-at golay 64 (v % 64) 0 (omega arith) in
+    ap₂ bitXor up low ∙ in-parts v h
 
 pub word-of-spec : {M : Type 1} → statement M
 word-of-spec =
     tie.close
     (tie.spec
-    mul-remainder
-    remainder-requires
+    upper-requires
+    lower-requires
+    cast-result
     mul-result
+    array-read-result
+    cast-result-2
     mul-result-2
-    add-result
-    add-result-2
-    add-result-3
+    array-read-result-2
     returns)

@@ -3,16 +3,12 @@ use mathlib.Core.Path.{_≡_, refl, sym, ap, _∙_}
 use mathlib.Core.List.{List}
 use Prim.Native.Nat.{ℕ, _-_, _≤_}
 use lib.ListN.{length, getD, set, length-set}
-use borrow.Author.Tests.{eq-eqb, ne-eqb}
 use Rattle.laws.proofs.InPlace.{done, done-more, done-all}
 use native.Mathlib.Omega.{arith}
 use borrow.Author.Needs.{needs}
 use Rattle.m17.proofs.Lent.{when-wrong, when-refused, when-done}
 use Rattle.m17.proofs.give.Statement.{statement}
 use Rattle.m17.proofs.give.Tie as tie
-use Rattle.m17.proofs.give.Reads as reads
-use Rattle.m17.proofs.give.Lts as lts
-use Rattle.refusal.proofs.number.Reads as number-reads
 
 abbrev Inv-loop : tie.InvT-loop
 Inv-loop bytes out₀ i₀ out i = (i ≤ length out₀) × (length bytes ≡ length out₀) × (length out ≡ length out₀) × (out ≡ done bytes out₀ i)

@@ -7,7 +7,7 @@ use lib.Seq.{paste, paste-zero}
 use Rattle.laws.specs.Value.{valueOf}
 use Rattle.protocol.specs.Fields.{bytesFrom, fieldsOf, renewed, setField}
 use Rattle.protocol.proofs.Held.{held-thirty}
-use Rattle.protocol.proofs.Pasted.{paste-more, paste-all}
+use Rattle.laws.proofs.Pasted.{paste-more, paste-all}
 use Rattle.protocol.proofs.Whole.{Thirty, bytes-put}
 use native.Mathlib.Omega.{arith}
 use borrow.Author.Needs.{needs}

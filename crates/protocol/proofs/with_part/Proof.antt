@@ -3,7 +3,7 @@ use mathlib.Core.Path.{_≡_}
 use Prim.Native.Nat.{_-_, _≤_}
 use lib.ListN.{length}
 use lib.Seq.{paste, paste-zero}
-use Rattle.protocol.proofs.Pasted.{paste-more, paste-all}
+use Rattle.laws.proofs.Pasted.{paste-more, paste-all}
 use native.Mathlib.Omega.{arith}
 use borrow.Author.Needs.{needs}
 use Rattle.protocol.proofs.with_part.Statement.{statement}

@@ -1,16 +1,16 @@
 -- `receiver::store` meets its contract: after i turns i elements are copied. Assumes nothing.
-use mathlib.Core.Path.{_≡_, refl, ap, _∙_}
-use mathlib.Core.List.{List}
-use Prim.Native.Nat.{ℕ, _+_, _-_, _≤_}
+use mathlib.Core.Path.{_≡_, refl}
+use Prim.Native.Nat.{_-_, _≤_}
 use native.Mathlib.Omega.{arith}
-use lib.ListN.{length, getD, set, length-set}
-use Rattle.encode.proofs.Copied.{copied, copied-none, copied-more, copied-all}
+use lib.ListN.{length, length-set}
+use lib.Seq.{paste, paste-zero}
+use Rattle.laws.proofs.Pasted.{paste-more, paste-all}
 use Rattle.receiver.proofs.store.Statement.{statement}
 use Rattle.receiver.proofs.store.Tie as tie
 
 abbrev Inv-loop : tie.InvT-loop
 Inv-loop memory₀ at b i₀ i-end memory i =
-    (i ≤ i-end) × (i-end ≡ length b) × (length memory ≡ length memory₀) × (memory ≡ copied memory₀ at b i)
+    (i ≤ i-end) × (i-end ≡ length b) × (length memory ≡ length memory₀) × (memory ≡ paste memory₀ at b i)
 
 abbrev μ-loop : tie.MeasureT-loop
 μ-loop memory₀ at b i₀ i-end memory i = i-end - i
@@ -18,7 +18,7 @@ abbrev μ-loop : tie.MeasureT-loop
 loop-holds : tie.Need-loop-holds Inv-loop μ-loop
 loop-holds c =
     let a = c .args in
-    (omega arith, refl, refl, copied-none (a .memory .now) (a .at) (a .b .now) (omega arith))
+    (omega arith, refl, refl, paste-zero (a .memory .now) (a .at) (a .b .now))
 
 shared-slice-read-memory : tie.Need-shared-slice-read-memory Inv-loop μ-loop
 shared-slice-read-memory c = omega arith
@@ -42,8 +42,7 @@ loop-again c =
       omega arith,
       refl,
       simp length-set (l .inv .2),
-      ap (λ (t : List ℕ). set t (a .at + l .i) (getD (a .b .now) (l .i) 0)) (l .inv .3)
-          ∙ copied-more (a .memory .now) (a .at) (a .b .now) (omega arith) (l .i) (omega arith),
+      paste-more (a .memory .now) (l .memory) (a .b .now) (a .at) (l .i) (omega arith) (omega arith) (l .inv .3),
     )
 
 same-length : tie.Need-same-length Inv-loop μ-loop
@@ -53,7 +52,7 @@ returns : tie.Need-returns Inv-loop μ-loop
 returns c =
     let l = c .before .loop in
     let a = c .before .before .args in
-    l .inv .3 ∙ copied-all (a .memory .now) (a .at) (a .b .now) (omega arith) (l .i) (omega arith)
+    paste-all (a .memory .now) (l .memory) (a .b .now) (a .at) (l .i) _ refl (omega arith) (l .inv .3)
 
 pub store-spec : {M : Type 1} → statement M
 store-spec =

@@ -2,7 +2,7 @@
 use mathlib.Core.Path.{refl, sym, _∙_}
 use Prim.Native.Nat.{_-_, _≤_}
 use native.Mathlib.Omega.{arith}
-use lib.Ieee.{Float, nan}
+use lib.Ieee.{nan}
 use lib.ListN.{getD}
 use Rattle.laws.proofs.Values.{Filled, filled-none, filled-more, filled-all, tabled-only}
 use Rattle.m17.proofs.Lent.{when-wrong, when-refused, when-done}

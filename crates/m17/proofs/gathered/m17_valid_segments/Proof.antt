@@ -4,7 +4,7 @@ use native.Mathlib.Omega.{arith}
 use lib.ListN.{length}
 use borrow.Author.Tests.{eq-eqb, ne-eqb}
 use Rattle.protocol.specs.Lich.{flagsSet}
-use Rattle.m17.proofs.Parts.{few}
+use Rattle.protocol.proofs.Gathered.{flags-le}
 use borrow.Author.Needs.{needs}
 use Rattle.m17.proofs.gathered.m17_valid_segments.Statement.{statement}
 use Rattle.m17.proofs.gathered.m17_valid_segments.Tie as tie
@@ -19,7 +19,7 @@ valid-segments-requires : tie.Need-valid-segments-requires
 valid-segments-requires c κs = search needs
 
 cast-out : tie.Need-cast-out
-cast-out c = omega (arith, few (c .before .flags-of .result), c .valid-segments .ensures)
+cast-out c = omega (arith, flags-le (c .before .flags-of .result), c .valid-segments .ensures)
 
 returns-2 : tie.Need-returns-2
 returns-2 c =

@@ -9,7 +9,7 @@ use lib.Ieee.{Float, nan, lt, neg}
 use lib.ListN.{length, getD, drop, length-drop}
 use lib.Seq.{drop-cons, getD-drop}
 use Rattle.bits.specs.Bits.{bit, byteOf}
-use Rattle.fec.proofs.Packed.{byte-is}
+use Rattle.bits.proofs.Packed.{byte-is}
 use Rattle.decode.specs.Symbols.{pairOf, pairsOf, nought, edge}
 
 -- each is read as two bits

@@ -385,6 +385,19 @@ static void answers(void)
     HOLD(m17_golay_decode(r.word ^ 0x80101, &r.number) == 0 && r.number == 1);
     HOLD(m17_encode_address(1, 0, r.name, 9, r.out, 6) == 0 && memcmp(r.out, ab1cd, 6) == 0);
     HOLD(m17_decode_address(ab1cd, 6, &r.small, &r.value, r.out, 9) == 0 && r.small == 1 && memcmp(r.out, r.name, 9) == 0);
+    /* A new header has each address in its own place, whatever its kind. */
+    for (int packet = 0; packet < 2; packet++) {
+        uint8_t made[30];
+        HOLD((packet ? m17_new_packet : m17_new_voice)(1, 0, start.name, 9, 2, 0xEE6B28000007, start.other, 9, made, 30) == 0);
+        fresh();
+        HOLD(m17_source(made, 30, &r.small, &r.value, r.out, 9) == 0 && r.small == 1 && memcmp(r.out, start.name, 9) == 0);
+        HOLD(m17_destination(made, 30, &r.small, &r.value, r.out, 9) == 0 && r.small == 2 && r.value == 0xEE6B28000007);
+        HOLD((packet ? m17_new_packet : m17_new_voice)(2, 0xEE6B28000009, start.name, 9, 1, 0, start.other, 9, made, 30) == 0);
+        HOLD(m17_source(made, 30, &r.small, &r.value, r.out, 9) == 0 && r.small == 2 && r.value == 0xEE6B28000009);
+        HOLD(m17_destination(made, 30, &r.small, &r.value, r.out, 9) == 0 && r.small == 1 && memcmp(r.out, start.other, 9) == 0);
+        HOLD(m17_mode(made, 30, &r.small) == 0 && r.small == !packet && m17_data_type(made, 30, &r.small) == 0 && r.small == 2 - packet);
+    }
+    fresh();
     HOLD(m17_interleave(r.far_off, 46, r.out, 46) == 0 && m17_interleave(r.out, 46, r.torn, 46) == 0);
     HOLD(memcmp(r.torn, r.far_off, 46) == 0);
 

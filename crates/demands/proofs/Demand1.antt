@@ -7,9 +7,10 @@ use mathlib.Core.Option.{Option, some, none}
 use Prim.Native.Nat.{ℕ, _+_, _*_}
 use native.Mathlib.Decide.{ℕ-discrete}
 use native.Mathlib.Omega.{arith}
-use lib.Dec.{eqb, ltb}
-use lib.Ieee.{Float}
-use lib.ListN.{length, take, drop, length-drop}
+use lib.Dec.{eqb, ltb, leb}
+use lib.IntN.{pos}
+use lib.Ieee.{Float, fin}
+use lib.ListN.{length, take, drop, replicate, length-drop}
 use borrow.Author.Tests.{eq-eqb, ne-eqb, eqb-true, lt-ltb, le-ltb}
 use Rattle.laws.specs.Value.{valueOf}
 use Rattle.refusal.specs.Number.{numberOf, saidOf}
@@ -22,7 +23,15 @@ use Rattle.bits.specs.Bits.{bitsOf}
 use Rattle.bits.specs.Places as bits
 use Rattle.bits.proofs.Getting as getting
 use Rattle.bits.proofs.Setting as setting
+use Rattle.interleave.specs.declared.Interleaved.{Interleaved}
+use Rattle.interleave.specs.Interleave.{interleavedOf}
 use Rattle.interleave.proofs.Twice as interleaving
+use Rattle.address.specs.declared.Address.{Address}
+use Rattle.address.specs.declared.Heard.the-variants as heard
+use Rattle.address.specs.declared.Reading.{Reading}
+use Rattle.address.specs.declared.Written.{Written}
+use Rattle.address.specs.Address as address
+use Rattle.address.proofs.EachKind.{read-short}
 use Rattle.address.proofs.Exactly as addresses
 use Rattle.golay.proofs.Only as golay
 use Rattle.crc.specs.Crc.{crc}
@@ -37,7 +46,13 @@ use Rattle.protocol.specs.declared.StreamFrame.{StreamFrame}
 use Rattle.protocol.specs.declared.PacketFrameCounter.{PacketFrameCounter}
 use Rattle.protocol.specs.declared.PacketFrameCounter.the-variants.{Frame, FinalFrame}
 use Rattle.protocol.specs.Lich.{partSaid, withPart, collected, setOf}
+use Rattle.protocol.specs.Header.{answered}
 use Rattle.protocol.proofs.Exactly as headers
+use Rattle.encode.specs.declared.Lich.{Lich}
+use Rattle.encode.specs.declared.Body.{Body}
+use Rattle.encode.specs.Lich.{lichOf}
+use Rattle.encode.specs.Bodies.{lsfBodyOf, streamBodyOf, countable, packetBodyOf}
+use Rattle.encode.specs.Symbols.{symbolsBy, symbolsFrom}
 use Rattle.encode.proofs.Exactly as writing
 use Rattle.decode.specs.Bodies.{lsfReadOf, noLsf, streamReadOf, noStream, packetReadOf, noPacket}
 use Rattle.decode.specs.Symbols.{bodyFrom, bodyReadOf, initialOf, lsfParsedOf, streamParsedOf, packetParsedOf}
@@ -72,6 +87,83 @@ part-untouched c part l why = by (partSaid c part)
     by : (v : Verdict) → collected v l (withPart c part l) .answer ≡ Refused why → collected v l (withPart c part l) .collection ≡ l
     by Done e = never (cc)
     by (Refused w) e = refl
+
+-- ---- a refusal carries no data
+
+-- no refusal has the number 0
+some-number : (w : Refusal) → numberOf w ≡ 0 → ⊥
+some-number WrongLength e = omega arith
+some-number OutOfRange e = omega arith
+some-number TooFar e = omega arith
+some-number BadGolay e = omega arith
+some-number BadHeader e = omega arith
+some-number BadAddress e = omega arith
+some-number UnknownSync e = omega arith
+some-number OutOfTurn e = omega arith
+some-number BadFinal e = omega arith
+some-number TooShort e = omega arith
+some-number BadPacket e = omega arith
+some-number BadState e = omega arith
+some-number BadSample e = omega arith
+some-number Ended e = omega arith
+some-number Full e = omega arith
+
+module _ (why : Refusal) where
+  interleave-none : (s : List ℕ) → interleavedOf s .answer ≡ Refused why → interleavedOf s .bytes ≡ replicate 46 0
+  unfolding interleavedOf
+  interleave-none s = by-test (λ (r : Interleaved). r .answer ≡ Refused why → r .bytes ≡ replicate 46 0) (eqb (length s) 46) (λ t e. never (cc)) (λ t e. refl)
+
+  address-read-none : (s : List ℕ) → address.decodedOf s .answer ≡ heard.Refused why → address.decodedOf s .callsign ≡ replicate 9 0
+  address-read-none s e = elim (ℕ-discrete (length s) 6) [
+    | yes l ↦ absurd (some-number why (sym (ap address.numberOfHeard e) ∙ addresses.read-exactly s .read-if l))
+    | no n ↦ ap (λ (r : Reading). r .callsign) (read-short s n)
+  ]
+
+  address-written-none : (a : Address) (s : List ℕ) → address.encodedOf a s .answer ≡ Refused why → address.encodedOf a s .bytes ≡ replicate 6 0
+  unfolding address.encodedOf
+  address-written-none a s = by-test Here (eqb (length s) 9) (λ t. by-test Here (address.writable a s) (λ u e. never (cc)) (λ u e. refl)) (λ t e. refl)
+    where
+      Here : Written → Type 0
+      Here r = r .answer ≡ Refused why → r .bytes ≡ replicate 6 0
+
+  coded-none : (k : Kind) (d : List ℕ) → fec.encodedOf k d .answer ≡ Refused why → fec.encodedOf k d .bytes ≡ replicate 46 0
+  unfolding fec.encodedOf
+  coded-none k d =
+      by-test (λ (r : Coded). r .answer ≡ Refused why → r .bytes ≡ replicate 46 0) (eqb (length d) (fec.dataBytes k)) (λ t e. never (cc)) (λ t e. refl)
+
+  header-none : (v : Verdict) (s : List ℕ) → answered v s .answer ≡ Refused why → answered v s .header .bytes ≡ replicate 30 0
+  header-none Done s e = never (cc)
+  header-none (Refused w) s e = refl
+
+  lich-none : (c : ℕ) (part : List ℕ) → lichOf c part .answer ≡ Refused why → lichOf c part .bytes ≡ replicate 12 0
+  unfolding lichOf
+  lich-none c part = by-test Here (eqb (length part) 5) (λ t. by-test Here (leb c 5) (λ u e. never (cc)) (λ u e. refl)) (λ t e. refl)
+    where
+      Here : Lich → Type 0
+      Here r = r .answer ≡ Refused why → r .bytes ≡ replicate 12 0
+
+  abbrev Blank : Body → Type 0
+  Blank r = r .answer ≡ Refused why → r .bytes ≡ replicate 46 0
+
+  header-written-none : (s : List ℕ) → Blank (lsfBodyOf s)
+  unfolding lsfBodyOf
+  header-written-none s = by-test Blank (eqb (length s) 30) (λ t e. never (cc)) (λ t e. refl)
+
+  stream-written-none : (i : ℕ) (part : List ℕ) (f : ℕ) (last : Bool) (s : List ℕ) → Blank (streamBodyOf i part f last s)
+  unfolding streamBodyOf
+  stream-written-none i part f last s =
+      by-test Blank (eqb (length part) 5 && eqb (length s) 16) (λ t. by-test Blank (leb i 5 && leb f 32767) (λ u e. never (cc)) (λ u e. refl)) (λ t e. refl)
+
+  packet-written-none : (c : PacketFrameCounter) (s : List ℕ) → Blank (packetBodyOf c s)
+  unfolding packetBodyOf
+  packet-written-none c s = by-test Blank (eqb (length s) 25) (λ t. by-test Blank (countable c) (λ u e. never (cc)) (λ u e. refl)) (λ t e. refl)
+
+  sent-none : (k : Kind) (b : Body) → symbolsFrom k b .answer ≡ Refused why → symbolsFrom k b .symbols ≡ replicate 192 (fin false 0 (pos 0))
+  sent-none k b = by (b .answer)
+    where
+      by : (v : Verdict) → symbolsBy v k (b .bytes) .answer ≡ Refused why → symbolsBy v k (b .bytes) .symbols ≡ replicate 192 (fin false 0 (pos 0))
+      by Done e = never (cc)
+      by (Refused w) e = refl
 
 -- ---- symbols
 
@@ -110,29 +202,16 @@ module _ (xs : List Float) where
 
 -- ---- the receiver's numbers
 
--- those that a slot by itself is refused with, and those of a packet slot
+-- those that a slot by itself is refused with
+abbrev Alone : ℕ → Type 0
+Alone n = OneOf n (3 ∷ 4 ∷ 5 ∷ 7 ∷ [])
+
+-- and with them those of a packet slot
 abbrev OfSlot : ℕ → Type 0
 OfSlot n = OneOf n (3 ∷ 4 ∷ 5 ∷ 7 ∷ 8 ∷ 9 ∷ 10 ∷ 11 ∷ [])
 
-some-number : (w : Refusal) → numberOf w ≡ 0 → ⊥
-some-number WrongLength e = omega arith
-some-number OutOfRange e = omega arith
-some-number TooFar e = omega arith
-some-number BadGolay e = omega arith
-some-number BadHeader e = omega arith
-some-number BadAddress e = omega arith
-some-number UnknownSync e = omega arith
-some-number OutOfTurn e = omega arith
-some-number BadFinal e = omega arith
-some-number TooShort e = omega arith
-some-number BadPacket e = omega arith
-some-number BadState e = omega arith
-some-number BadSample e = omega arith
-some-number Ended e = omega arith
-some-number Full e = omega arith
-
 -- a body's refusal: 3 or 4, for a body of 46 bytes
-body-number : (v : Verdict) (w : Refusal) → v ≡ Refused w → (saidOf v ≡ 1 → ⊥) → OneOf (saidOf v) (0 ∷ 1 ∷ 3 ∷ 4 ∷ []) → OfSlot (numberOf w)
+body-number : (v : Verdict) (w : Refusal) → v ≡ Refused w → (saidOf v ≡ 1 → ⊥) → OneOf (saidOf v) (0 ∷ 1 ∷ 3 ∷ 4 ∷ []) → Alone (numberOf w)
 body-number v w e long (inl z) = absurd (some-number w (sym (ap saidOf e) ∙ z))
 body-number v w e long (inr (inl z)) = absurd (long z)
 body-number v w e long (inr (inr (inl z))) = inl (sym (ap saidOf e) ∙ z)
@@ -143,28 +222,28 @@ three-is n (inl z) = inl z
 three-is n (inr (inl z)) = inr (inl z)
 three-is n (inr (inr (inl z))) = inr (inr (inl z))
 
-header-number : (v : Verdict) (h : List ℕ) (w : Refusal) → (saidOf v ≡ 1 → ⊥) → OneOf (saidOf v) (0 ∷ 1 ∷ 3 ∷ []) → headerBy v h ≡ unread w → OfSlot (numberOf w)
+header-number : (v : Verdict) (h : List ℕ) (w : Refusal) → (saidOf v ≡ 1 → ⊥) → OneOf (saidOf v) (0 ∷ 1 ∷ 3 ∷ []) → headerBy v h ≡ unread w → Alone (numberOf w)
 header-number Done h w long only e = by e
   where
-    by : cond (eqb (crc h) 0) (head h) (unread BadHeader) ≡ unread w → OfSlot (numberOf w)
+    by : cond (eqb (crc h) 0) (head h) (unread BadHeader) ≡ unread w → Alone (numberOf w)
     by =
-        by-test (λ (s : Seen). s ≡ unread w → OfSlot (numberOf w)) (eqb (crc h) 0) (λ z e. never (cc))
+        by-test (λ (s : Seen). s ≡ unread w → Alone (numberOf w)) (eqb (crc h) 0) (λ z e. never (cc))
         (λ z e. let q : BadHeader ≡ w = cc in inr (inr (inl (sym (ap numberOf q)))))
 header-number (Refused why) h w long only e =
     let q : why ≡ w = cc in body-number (Refused why) w (ap Refused q) long (three-is (numberOf why) only)
 
-stream-number : (v : Verdict) (f : StreamFrame) (w : Refusal) → (saidOf v ≡ 1 → ⊥) → OneOf (saidOf v) (0 ∷ 1 ∷ 3 ∷ 4 ∷ []) → streamBy v f ≡ unread w → OfSlot (numberOf w)
+stream-number : (v : Verdict) (f : StreamFrame) (w : Refusal) → (saidOf v ≡ 1 → ⊥) → OneOf (saidOf v) (0 ∷ 1 ∷ 3 ∷ 4 ∷ []) → streamBy v f ≡ unread w → Alone (numberOf w)
 stream-number Done f w long only e = never (cc)
 stream-number (Refused why) f w long only e = let q : why ≡ w = cc in body-number (Refused why) w (ap Refused q) long only
 
 packet-number : (v : Verdict) (c : PacketFrameCounter) (b : List ℕ) (w : Refusal) → (saidOf v ≡ 1 → ⊥) → OneOf (saidOf v) (0 ∷ 1 ∷ 3 ∷ [])
-    → packetBy v c b ≡ unread w → OfSlot (numberOf w)
+    → packetBy v c b ≡ unread w → Alone (numberOf w)
 packet-number Done (Frame k) b w long only e = never (cc)
 packet-number Done (FinalFrame len) b w long only e = never (cc)
 packet-number (Refused why) c b w long only e = let q : why ≡ w = cc in body-number (Refused why) w (ap Refused q) long (three-is (numberOf why) only)
 
 -- what 48 bytes are refused with by themselves
-unread-number : (x : List ℕ) (w : Refusal) → length x ≡ 48 → see x ≡ unread w → OfSlot (numberOf w)
+unread-number : (x : List ℕ) (w : Refusal) → length x ≡ 48 → see x ≡ unread w → Alone (numberOf w)
 unfolding see
 unread-number x w long =
     by-test Here (eqb sync 0x55F7)
@@ -186,7 +265,13 @@ unread-number x w long =
     left = length-drop 2 x ∙ omega arith
 
     Here : Seen → Type 0
-    Here s = s ≡ unread w → OfSlot (numberOf w)
+    Here s = s ≡ unread w → Alone (numberOf w)
+
+wider : (n : ℕ) → Alone n → OfSlot n
+wider n (inl e) = inl e
+wider n (inr (inl e)) = inr (inl e)
+wider n (inr (inr (inl e))) = inr (inr (inl e))
+wider n (inr (inr (inr (inl e)))) = inr (inr (inr (inl e)))
 
 -- a final piece
 verdict-number : (n len sum : ℕ) (w : Refusal) → step.verdict n len sum ≡ Refused w → OfSlot (numberOf w)
@@ -239,9 +324,9 @@ both true b e = refl
 both false b e = never (cc)
 
 module _ (r : Receiver) (x m : List ℕ) where
-  heard : fits x m ≡ true → within (r .phase) ≡ true → receivedOf r x m ≡ taken (stateOf r) m (see x)
+  taken-is : fits x m ≡ true → within (r .phase) ≡ true → receivedOf r x m ≡ taken (stateOf r) m (see x)
   unfolding receivedOf
-  heard f w = rw (f, w)
+  taken-is f w = rw (f, w)
 
   left : fits x m ≡ true → within (r .phase) ≡ true → memoryOf r x m ≡ step.kept (stateOf r) m (see x)
   unfolding memoryOf
@@ -249,12 +334,12 @@ module _ (r : Receiver) (x m : List ℕ) where
 
   slot-refused : (why : Refusal) → fits x m ≡ true → within (r .phase) ≡ true → receivedOf r x m .answer ≡ Answers.Refused why
       → step.answer (stateOf r) m (see x) ≡ step.refused why
-  slot-refused why f w e = refused-only (step.answer (stateOf r) m (see x)) why (sym (ap (λ (k : Received). k .answer) (heard f w)) ∙ e)
+  slot-refused why f w e = refused-only (step.answer (stateOf r) m (see x)) why (sym (ap (λ (k : Received). k .answer) (taken-is f w)) ∙ e)
 
   receiver-only : (why : Refusal) → fits x m ≡ true → within (r .phase) ≡ true → receivedOf r x m .answer ≡ Answers.Refused why → OfSlot (numberOf why)
   receiver-only why f w e =
       let long = eqb-true (length x) 48 (both (eqb (length x) 48) (eqb (length m) 825) f) in
-      refused-number (stateOf r) m (see x) why (λ v q. unread-number x v long q) (slot-refused why f w e)
+      refused-number (stateOf r) m (see x) why (λ v q. wider (numberOf v) (unread-number x v long q)) (slot-refused why f w e)
 
   -- 1, 12, or what the automaton does
   cases : (P : Received → List ℕ → Type 0) → (fits x m ≡ false → P (unchanged WrongLength r) m)
@@ -369,6 +454,17 @@ demand-1 =
       stream-parsed = stream-parsed;
       packet-parsed-1 = packet-parsed-1;
       packet-parsed = packet-parsed;
+      interleave-none = λ s why. interleave-none why s;
+      address-read-none = λ s why. address-read-none why s;
+      address-written-none = λ a s why. address-written-none why a s;
+      coded-none = λ k d why. coded-none why k d;
+      header-none = λ v s why. header-none why v s;
+      lich-none = λ c part why. lich-none why c part;
+      header-written-none = λ s why. header-written-none why s;
+      stream-written-none = λ i part f last s why. stream-written-none why i part f last s;
+      packet-written-none = λ c s why. packet-written-none why c s;
+      sent-none = λ k b why. sent-none why k b;
+      slot-only = unread-number;
       receiver-1 = receiver-1;
       receiver-12 = receiver-12;
       receiver-only = receiver-only;

@@ -34,11 +34,11 @@ module _ (n len sum : ℕ) where
       → P (verdict n len sum)
   unfolding verdict
   cases P nine ten eleven good =
-      by-test P (eqb len 0) (λ a. nine (inl (eqb-true len 0 a)))
-      (λ a. by-test P (ltb 25 len) (λ b. nine (inr (ltb-true 25 len b)))
-      (λ b. by-test P (ltb (25 * n + len) 3) (λ c. ten (least a, ltb-false 25 len b, ltb-true _ 3 c))
-      (λ c. by-test P (eqb sum 0) (λ d. good (record { least = least a; most = ltb-false 25 len b; three = ltb-false _ 3 c; zero-crc = eqb-true sum 0 d }))
-      (λ d. eleven (least a, ltb-false 25 len b, ltb-false _ 3 c, eqb-false sum 0 d)))))
+      by-test P _ (λ a. nine (inl (eqb-true _ _ a)))
+      (λ a. by-test P _ (λ b. nine (inr (ltb-true _ _ b)))
+      (λ b. by-test P _ (λ c. ten (least a, ltb-false _ _ b, ltb-true _ _ c))
+      (λ c. by-test P _ (λ d. good (record { least = least a; most = ltb-false _ _ b; three = ltb-false _ _ c; zero-crc = eqb-true _ _ d }))
+      (λ d. eleven (least a, ltb-false _ _ b, ltb-false _ _ c, eqb-false _ _ d)))))
     where
       least : eqb len 0 ≡ false → 1 ≤ len
       least a = omega (arith, eqb-false len 0 a)

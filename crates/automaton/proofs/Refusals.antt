@@ -21,7 +21,7 @@ use Rattle.automaton.proofs.Verdicts as verdicts
 use Rattle.automaton.proofs.Opened.{opened}
 use Rattle.automaton.proofs.Held.{held, begins}
 
-told-only : (total : ℕ) (v : Verdict) (why : Refusal) → told total v ≡ refused why → v ≡ Refused why
+pub told-only : (total : ℕ) (v : Verdict) (why : Refusal) → told total v ≡ refused why → v ≡ Refused why
 told-only total Done why e = never (cc)
 told-only total (Refused w) why e = let q : w ≡ why = cc in ap Refused q
 

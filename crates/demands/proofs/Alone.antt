@@ -3,7 +3,7 @@ use mathlib.Core.Path.{_≡_, sym, ap, _∙_}
 use mathlib.Core.Logic.{inl, inr}
 use mathlib.Core.Bool.{cond}
 use mathlib.Core.List.{List, [], _∷_}
-use Prim.Native.Nat.{ℕ}
+use Prim.Native.Nat.{ℕ, _≤_}
 use native.Mathlib.Omega.{arith}
 use lib.Dec.{eqb}
 use lib.ListN.{length, take, drop, length-drop}
@@ -102,3 +102,13 @@ unread-number x w long =
 
     Here : Seen → Type 0
     Here s = s ≡ unread w → Alone (numberOf w)
+
+-- the numbers from 8 on are not among them
+pub not-alone : (x : List ℕ) (w : Refusal) → length x ≡ 48 → 8 ≤ numberOf w → see x ≡ unread w → ⊥
+not-alone x w long over e = small (unread-number x w long e)
+  where
+    small : Alone (numberOf w) → ⊥
+    small (inl q) = omega arith
+    small (inr (inl q)) = omega arith
+    small (inr (inr (inl q))) = omega arith
+    small (inr (inr (inr (inl q)))) = omega arith

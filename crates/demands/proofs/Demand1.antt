@@ -7,7 +7,7 @@ use mathlib.Core.Option.{Option, some, none}
 use Prim.Native.Nat.{ℕ, _+_, _*_}
 use native.Mathlib.Decide.{ℕ-discrete}
 use native.Mathlib.Omega.{arith}
-use lib.Dec.{eqb, ltb, leb}
+use lib.Dec.{eqb, leb}
 use lib.IntN.{pos}
 use lib.Ieee.{Float, fin}
 use lib.ListN.{length, replicate}
@@ -60,6 +60,8 @@ use Rattle.automaton.specs.Step as step
 use Rattle.automaton.specs.Demand3.{ByAnswer}
 use Rattle.automaton.proofs.Cases.{never, by-test}
 use Rattle.automaton.proofs.ByAnswer.{by-answer}
+use Rattle.automaton.proofs.Verdicts.{by-verdict}
+use Rattle.automaton.proofs.Refusals.{told-only}
 use Rattle.receiver.specs.declared.Receiver.{Receiver}
 use Rattle.receiver.specs.declared.Answer.the-variants as Answers
 use Rattle.receiver.specs.declared.Received.{Received}
@@ -193,15 +195,9 @@ wider n (inr (inr (inr (inl e)))) = inr (inr (inr (inl e)))
 
 -- a final piece
 verdict-number : (n len sum : ℕ) (w : Refusal) → step.verdict n len sum ≡ Refused w → OfSlot (numberOf w)
-unfolding step.verdict
 verdict-number n len sum w =
-    by-test Here (eqb len 0) (λ a e. nine e)
-    (λ a. by-test Here (ltb 25 len) (λ b e. nine e)
-    (λ b. by-test Here (ltb (25 * n + len) 3) (λ c e. ten e) (λ c. by-test Here (eqb sum 0) (λ d e. never (cc)) (λ d e. eleven e))))
+    by-verdict n len sum (λ v. v ≡ Refused w → OfSlot (numberOf w)) (λ k e. nine e) (λ k e. ten e) (λ k e. eleven e) (λ k e. never (cc))
   where
-    Here : Verdict → Type 0
-    Here v = v ≡ Refused w → OfSlot (numberOf w)
-
     nine : Refused BadFinal ≡ Refused w → OfSlot (numberOf w)
     nine e = let q : BadFinal ≡ w = cc in inr (inr (inr (inr (inr (inl (sym (ap numberOf q)))))))
 
@@ -218,10 +214,6 @@ judge-number : (st : step.State) (m : List ℕ) (len : ℕ) (b : List ℕ) (w : 
 judge-number step.idle m len b w e = out-of-turn w cc
 judge-number (step.inPacket n) m len b w e = verdict-number n len _ w e
 judge-number (step.gathering k q) m len b w e = out-of-turn w cc
-
-told-only : (total : ℕ) (v : Verdict) (w : Refusal) → step.told total v ≡ step.refused w → v ≡ Refused w
-told-only total Done w e = never (cc)
-told-only total (Refused why) w e = let q : why ≡ w = cc in ap Refused q
 
 -- what the automaton refuses a slot with
 refused-number : (st : step.State) (m : List ℕ) (s : Seen) (w : Refusal) → ((v : Refusal) → s ≡ unread v → OfSlot (numberOf v))

@@ -6,7 +6,7 @@ use mathlib.Core.List.{List, _++_}
 use Prim.Native.Nat.{ℕ, _+_, _*_}
 use native.Mathlib.Omega.{arith}
 use lib.ListN.{length, take, drop, length-append}
-use lib.Seq.{length-take-le, take-at, take-append-seam}
+use lib.Seq.{length-take-le, take-append-seam}
 use Rattle.refusal.specs.declared.Verdict.the-variants.{Done}
 use Rattle.crc.specs.Crc.{crc}
 use Rattle.automaton.specs.Seen.{Seen, head, final, Sound}
@@ -18,11 +18,7 @@ use Rattle.automaton.proofs.ByAnswer.{by-answer}
 use Rattle.automaton.proofs.Verdicts.{good-only, good-if}
 use Rattle.automaton.specs.Opened.{Opened}
 use Rattle.automaton.proofs.Opened.{opened}
-use Rattle.automaton.proofs.Held.{Held, held, put-after}
-
--- the pieces are what memory begins with
-begins : (m m₀ : List ℕ) (past : Slots) (n : ℕ) (j : List ℕ) → Held m m₀ past n j → take (25 * n) (memory m past) ≡ j
-begins m m₀ past n j g = rw (g .rest) (take-at j _ (25 * n) (g .long))
+use Rattle.automaton.proofs.Held.{Held, held, begins, put-after}
 
 module _ (m : List ℕ) (gone : Slots) (os : AllSound gone) where
   -- ---- a packet is handed out

@@ -5,6 +5,7 @@ pub mod Opened
 pub mod Held
 pub mod Fresh
 pub mod HandedOut
+pub mod Refusals
 pub mod LateHeader
 pub mod Eleven
 pub mod Bounds

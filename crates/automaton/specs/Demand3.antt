@@ -1,16 +1,18 @@
 -- Demand 3 over what slots say: slots are fed in order to one receiver from its start, its packet memory m untouched between calls.
 -- Assumes nothing.
 use mathlib.Core.Path.{_≡_}
-use mathlib.Core.Logic.{_↔_}
+use mathlib.Core.Logic.{_↔_, _⊎_}
 use mathlib.Core.List.{List, _++_}
 use Prim.Native.Nat.{ℕ, _+_, _*_, _%_, _<_, _≤_}
 use lib.ListN.{length, take, drop}
 use Rattle.refusal.specs.declared.Refusal.{Refusal}
+use Rattle.refusal.specs.declared.Refusal.the-variants.{OutOfTurn, BadFinal, TooShort, BadPacket}
 use Rattle.refusal.specs.declared.Verdict.the-variants.{Done}
 use Rattle.crc.specs.Crc.{crc}
-use Rattle.automaton.specs.Seen.{Fields, Seen, head, piece, final, stream, end, Sound}
+use Rattle.automaton.specs.Seen.{Fields, Seen, head, piece, final, stream, end, unread, Sound}
 use Rattle.automaton.specs.Step.{State, idle, inPacket, gathering, Answer, header, stored, packet, fields, ended, refused, late, spoiled, pieces, judge, put, lateOf, next, answer, kept}
 use Rattle.automaton.specs.Runs.{Slots, start, _▸_, _▸▸_, AllSound, Sounds, state, memory, said, Packet, part, Six, sent, sending}
+use Rattle.automaton.specs.Opened.{Pieces, Closing}
 
 -- what an answer says of its slot, and of what the slot did: a stored piece changes its own bytes only, a final piece its length; any other answer leaves memory as it is
 abbrev pub ByAnswer : State → List ℕ → Seen → Answer → Type 0
@@ -46,6 +48,21 @@ pub record OverSeen : Type 0 where
   pub by-answer : (st : State) (m : List ℕ) (s : Seen) → ByAnswer st m s (answer st m s)
   -- A refusal leaves the receiver idle.
   pub refusal-idles : (st : State) (m : List ℕ) (s : Seen) (why : Refusal) → answer st m s ≡ refused why → next st s ≡ idle
+  -- A slot that is not refused so by itself is refused with 8 exactly when it is frame k and the slots just gone are not a packet header and
+  -- frames 0 to k - 1, or a final frame and they are no packet header and frames 0 upward.
+  pub refused-8 : (m : List ℕ) (gone : Slots) (s : Seen) → AllSound gone → (s ≡ unread OutOfTurn → ⊥)
+      → (said m gone s .answer ≡ refused OutOfTurn)
+      ↔ (((k : ℕ) × (b : List ℕ) × (s ≡ piece k b) × (Pieces k gone → ⊥)) ⊎ ((len : ℕ) × (b : List ℕ) × (s ≡ final len b) × ((n : ℕ) → Pieces n gone → ⊥)))
+  -- With 9, exactly when it is a final frame of length 0 or over 25 with a packet open.
+  pub refused-9 : (m : List ℕ) (gone : Slots) (s : Seen) → AllSound gone → (s ≡ unread BadFinal → ⊥)
+      → (said m gone s .answer ≡ refused BadFinal) ↔ ((c : Closing gone s) × ((c .len ≡ 0) ⊎ (25 < c .len)))
+  -- With 10, exactly when it is a final frame of length 1 to 25 with a packet open, total 25n + length under 3.
+  pub refused-10 : (m : List ℕ) (gone : Slots) (s : Seen) → AllSound gone → (s ≡ unread TooShort → ⊥)
+      → (said m gone s .answer ≡ refused TooShort) ↔ ((c : Closing gone s) × (1 ≤ c .len) × (c .len ≤ 25) × (25 * c .n + c .len < 3))
+  -- With 11, exactly when it is such a frame, total 3 or more, and the CRC over all their bytes is not zero.
+  pub refused-11 : (m : List ℕ) (gone : Slots) (s : Seen) → AllSound gone → (s ≡ unread BadPacket → ⊥)
+      → (said m gone s .answer ≡ refused BadPacket)
+      ↔ ((c : Closing gone s) × (1 ≤ c .len) × (c .len ≤ 25) × (3 ≤ 25 * c .n + c .len) × (crc (c .bytes) ≡ 0 → ⊥))
   -- A late header comes exactly when the last six slots are stream slots counted 0 to 5 with CRC zero.
   pub late-header : (m : List ℕ) (gone : Slots) (s : Seen) (c : ℕ) (p : List ℕ) (f : Fields) (bytes : List ℕ)
       → (said m gone s .answer ≡ fields c p f (late bytes)) ↔ ((c ≡ 5) × Six gone s p f bytes × (crc bytes ≡ 0))

@@ -70,9 +70,9 @@ abbrev pub told : ℕ → Verdict → Answer
 told total Done = packet total
 told total (Refused why) = refused why
 
-abbrev pub left : Verdict → List ℕ → List ℕ → List ℕ
-left Done new m = new
-left (Refused why) new m = m
+abbrev pub memoryLeft : Verdict → List ℕ → List ℕ → List ℕ
+memoryLeft Done new m = new
+memoryLeft (Refused why) new m = m
 
 -- the bytes b put into memory at a place
 abbrev pub put : ℕ → List ℕ → List ℕ → List ℕ
@@ -127,7 +127,7 @@ answer s m (unread why) = refused why
 unfoldable pub kept : State → List ℕ → Seen → List ℕ
 kept s m (head h) = m
 kept s m (piece k b) = cond (expects s k) (put (25 * k) b m) m
-kept s m (final len b) = left (judge s m len b) (put (25 * pieces s) (take len b) m) m
+kept s m (final len b) = memoryLeft (judge s m len b) (put (25 * pieces s) (take len b) m) m
 kept s m (stream c p f) = m
 kept s m end = m
 kept s m (unread why) = m

@@ -7,15 +7,14 @@ use mathlib.Core.Option.{Option, some, none}
 use Prim.Native.Nat.{ℕ, _+_, _*_}
 use native.Mathlib.Decide.{ℕ-discrete}
 use native.Mathlib.Omega.{arith}
-use lib.Dec.{eqb, ltb, leb}
+use lib.Dec.{eqb, leb}
 use lib.IntN.{pos}
 use lib.Ieee.{Float, fin}
-use lib.ListN.{length, take, drop, replicate, length-drop}
+use lib.ListN.{length, replicate}
 use borrow.Author.Tests.{eq-eqb, ne-eqb, eqb-true, lt-ltb, le-ltb}
-use Rattle.laws.specs.Value.{valueOf}
 use Rattle.refusal.specs.Number.{numberOf, saidOf}
 use Rattle.refusal.specs.declared.Refusal.{Refusal}
-use Rattle.refusal.specs.declared.Refusal.the-variants.{WrongLength, OutOfRange, TooFar, BadGolay, BadHeader, BadAddress, UnknownSync, OutOfTurn, BadFinal, TooShort, BadPacket, BadState, BadSample, Ended, Full}
+use Rattle.refusal.specs.declared.Refusal.the-variants.{WrongLength, OutOfTurn, BadFinal, TooShort, BadPacket, BadState}
 use Rattle.refusal.specs.declared.Verdict.{Verdict}
 use Rattle.refusal.specs.declared.Verdict.the-variants.{Done, Refused}
 use Rattle.refusal.proofs.Different.{different}
@@ -34,7 +33,6 @@ use Rattle.address.specs.Address as address
 use Rattle.address.proofs.EachKind.{read-short}
 use Rattle.address.proofs.Exactly as addresses
 use Rattle.golay.proofs.Only as golay
-use Rattle.crc.specs.Crc.{crc}
 use Rattle.fec.specs.declared.Kind.{Kind}
 use Rattle.fec.specs.declared.Coded.{Coded}
 use Rattle.fec.specs.Kinds as fec
@@ -42,9 +40,7 @@ use Rattle.fec.specs.Nearest.{readOf}
 use Rattle.fec.proofs.Bodies.{encoded-long, encoded-short, decoded-long, decoded-short}
 use Rattle.fec.proofs.When as when
 use Rattle.protocol.specs.declared.LichCollection.{LichCollection}
-use Rattle.protocol.specs.declared.StreamFrame.{StreamFrame}
 use Rattle.protocol.specs.declared.PacketFrameCounter.{PacketFrameCounter}
-use Rattle.protocol.specs.declared.PacketFrameCounter.the-variants.{Frame, FinalFrame}
 use Rattle.protocol.specs.Lich.{partSaid, withPart, collected, setOf}
 use Rattle.protocol.specs.Header.{answered}
 use Rattle.protocol.proofs.Exactly as headers
@@ -64,12 +60,15 @@ use Rattle.automaton.specs.Step as step
 use Rattle.automaton.specs.Demand3.{ByAnswer}
 use Rattle.automaton.proofs.Cases.{never, by-test}
 use Rattle.automaton.proofs.ByAnswer.{by-answer}
+use Rattle.automaton.proofs.Verdicts.{by-verdict}
+use Rattle.automaton.proofs.Refusals.{told-only}
 use Rattle.receiver.specs.declared.Receiver.{Receiver}
 use Rattle.receiver.specs.declared.Answer.the-variants as Answers
 use Rattle.receiver.specs.declared.Received.{Received}
-use Rattle.receiver.specs.See.{headerBy, streamBy, packetBy, see}
+use Rattle.receiver.specs.See.{see}
 use Rattle.receiver.specs.Receiver.{stateOf, within, fits, unchanged, taken, receivedOf, memoryOf}
 use Rattle.demands.specs.Demand1.{ByLength, Demand1}
+use Rattle.demands.proofs.Alone.{some-number, Alone, unread-number}
 use Rattle.demands.proofs.EachSlot.{refused-only, refused-1, refused-12}
 
 -- ---- leaves
@@ -89,24 +88,6 @@ part-untouched c part l why = by (partSaid c part)
     by (Refused w) e = refl
 
 -- ---- a refusal carries no data
-
--- no refusal has the number 0
-some-number : (w : Refusal) → numberOf w ≡ 0 → ⊥
-some-number WrongLength e = omega arith
-some-number OutOfRange e = omega arith
-some-number TooFar e = omega arith
-some-number BadGolay e = omega arith
-some-number BadHeader e = omega arith
-some-number BadAddress e = omega arith
-some-number UnknownSync e = omega arith
-some-number OutOfTurn e = omega arith
-some-number BadFinal e = omega arith
-some-number TooShort e = omega arith
-some-number BadPacket e = omega arith
-some-number BadState e = omega arith
-some-number BadSample e = omega arith
-some-number Ended e = omega arith
-some-number Full e = omega arith
 
 module _ (why : Refusal) where
   interleave-none : (s : List ℕ) → interleavedOf s .answer ≡ Refused why → interleavedOf s .bytes ≡ replicate 46 0
@@ -202,70 +183,9 @@ module _ (xs : List Float) where
 
 -- ---- the receiver's numbers
 
--- those that a slot by itself is refused with
-abbrev Alone : ℕ → Type 0
-Alone n = OneOf n (3 ∷ 4 ∷ 5 ∷ 7 ∷ [])
-
--- and with them those of a packet slot
+-- those of a slot by itself, and with them those of a packet slot
 abbrev OfSlot : ℕ → Type 0
 OfSlot n = OneOf n (3 ∷ 4 ∷ 5 ∷ 7 ∷ 8 ∷ 9 ∷ 10 ∷ 11 ∷ [])
-
--- a body's refusal: 3 or 4, for a body of 46 bytes
-body-number : (v : Verdict) (w : Refusal) → v ≡ Refused w → (saidOf v ≡ 1 → ⊥) → OneOf (saidOf v) (0 ∷ 1 ∷ 3 ∷ 4 ∷ []) → Alone (numberOf w)
-body-number v w e long (inl z) = absurd (some-number w (sym (ap saidOf e) ∙ z))
-body-number v w e long (inr (inl z)) = absurd (long z)
-body-number v w e long (inr (inr (inl z))) = inl (sym (ap saidOf e) ∙ z)
-body-number v w e long (inr (inr (inr (inl z)))) = inr (inl (sym (ap saidOf e) ∙ z))
-
-three-is : (n : ℕ) → OneOf n (0 ∷ 1 ∷ 3 ∷ []) → OneOf n (0 ∷ 1 ∷ 3 ∷ 4 ∷ [])
-three-is n (inl z) = inl z
-three-is n (inr (inl z)) = inr (inl z)
-three-is n (inr (inr (inl z))) = inr (inr (inl z))
-
-header-number : (v : Verdict) (h : List ℕ) (w : Refusal) → (saidOf v ≡ 1 → ⊥) → OneOf (saidOf v) (0 ∷ 1 ∷ 3 ∷ []) → headerBy v h ≡ unread w → Alone (numberOf w)
-header-number Done h w long only e = by e
-  where
-    by : cond (eqb (crc h) 0) (head h) (unread BadHeader) ≡ unread w → Alone (numberOf w)
-    by =
-        by-test (λ (s : Seen). s ≡ unread w → Alone (numberOf w)) (eqb (crc h) 0) (λ z e. never (cc))
-        (λ z e. let q : BadHeader ≡ w = cc in inr (inr (inl (sym (ap numberOf q)))))
-header-number (Refused why) h w long only e =
-    let q : why ≡ w = cc in body-number (Refused why) w (ap Refused q) long (three-is (numberOf why) only)
-
-stream-number : (v : Verdict) (f : StreamFrame) (w : Refusal) → (saidOf v ≡ 1 → ⊥) → OneOf (saidOf v) (0 ∷ 1 ∷ 3 ∷ 4 ∷ []) → streamBy v f ≡ unread w → Alone (numberOf w)
-stream-number Done f w long only e = never (cc)
-stream-number (Refused why) f w long only e = let q : why ≡ w = cc in body-number (Refused why) w (ap Refused q) long only
-
-packet-number : (v : Verdict) (c : PacketFrameCounter) (b : List ℕ) (w : Refusal) → (saidOf v ≡ 1 → ⊥) → OneOf (saidOf v) (0 ∷ 1 ∷ 3 ∷ [])
-    → packetBy v c b ≡ unread w → Alone (numberOf w)
-packet-number Done (Frame k) b w long only e = never (cc)
-packet-number Done (FinalFrame len) b w long only e = never (cc)
-packet-number (Refused why) c b w long only e = let q : why ≡ w = cc in body-number (Refused why) w (ap Refused q) long (three-is (numberOf why) only)
-
--- what 48 bytes are refused with by themselves
-unread-number : (x : List ℕ) (w : Refusal) → length x ≡ 48 → see x ≡ unread w → Alone (numberOf w)
-unfolding see
-unread-number x w long =
-    by-test Here (eqb sync 0x55F7)
-    (λ e. header-number (lsfReadOf body .answer) (lsfReadOf body .frame .bytes) w (λ z. reading.lsf-when body .wrong z left) (reading.lsf-when body .only))
-    (λ e. by-test Here (eqb sync 0xFF5D)
-    (λ f. stream-number (streamReadOf body .answer) (streamReadOf body .frame) w (λ z. reading.stream-when body .wrong z left) (reading.stream-when body .only))
-    (λ f. by-test Here (eqb sync 0x75FF)
-    (λ g. packet-number (packetReadOf body .answer) (packetReadOf body .frame .counter) (packetReadOf body .frame .payload) w
-    (λ z. reading.packet-when body .wrong z left) (reading.packet-when body .only))
-    (λ g. by-test Here (eqb sync 0x555D) (λ i q. never (cc)) (λ i q. let r : UnknownSync ≡ w = cc in inr (inr (inr (inl (sym (ap numberOf r)))))))))
-  where
-    sync : ℕ
-    sync = valueOf (take 2 x)
-
-    body : List ℕ
-    body = drop 2 x
-
-    left : length (drop 2 x) ≡ 46
-    left = length-drop 2 x ∙ omega arith
-
-    Here : Seen → Type 0
-    Here s = s ≡ unread w → Alone (numberOf w)
 
 wider : (n : ℕ) → Alone n → OfSlot n
 wider n (inl e) = inl e
@@ -275,15 +195,9 @@ wider n (inr (inr (inr (inl e)))) = inr (inr (inr (inl e)))
 
 -- a final piece
 verdict-number : (n len sum : ℕ) (w : Refusal) → step.verdict n len sum ≡ Refused w → OfSlot (numberOf w)
-unfolding step.verdict
 verdict-number n len sum w =
-    by-test Here (eqb len 0) (λ a e. nine e)
-    (λ a. by-test Here (ltb 25 len) (λ b e. nine e)
-    (λ b. by-test Here (ltb (25 * n + len) 3) (λ c e. ten e) (λ c. by-test Here (eqb sum 0) (λ d e. never (cc)) (λ d e. eleven e))))
+    by-verdict n len sum (λ v. v ≡ Refused w → OfSlot (numberOf w)) (λ k e. nine e) (λ k e. ten e) (λ k e. eleven e) (λ k e. never (cc))
   where
-    Here : Verdict → Type 0
-    Here v = v ≡ Refused w → OfSlot (numberOf w)
-
     nine : Refused BadFinal ≡ Refused w → OfSlot (numberOf w)
     nine e = let q : BadFinal ≡ w = cc in inr (inr (inr (inr (inr (inl (sym (ap numberOf q)))))))
 
@@ -300,10 +214,6 @@ judge-number : (st : step.State) (m : List ℕ) (len : ℕ) (b : List ℕ) (w : 
 judge-number step.idle m len b w e = out-of-turn w cc
 judge-number (step.inPacket n) m len b w e = verdict-number n len _ w e
 judge-number (step.gathering k q) m len b w e = out-of-turn w cc
-
-told-only : (total : ℕ) (v : Verdict) (w : Refusal) → step.told total v ≡ step.refused w → v ≡ Refused w
-told-only total Done w e = never (cc)
-told-only total (Refused why) w e = let q : why ≡ w = cc in ap Refused q
 
 -- what the automaton refuses a slot with
 refused-number : (st : step.State) (m : List ℕ) (s : Seen) (w : Refusal) → ((v : Refusal) → s ≡ unread v → OfSlot (numberOf v))

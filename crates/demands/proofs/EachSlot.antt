@@ -11,8 +11,9 @@ use lib.ListN.{length, getD, take, drop, length-drop}
 use lib.Seq.{getD-drop}
 use borrow.Author.Tests.{eq-eqb, ne-eqb, eqb-true}
 use Rattle.laws.specs.Value.{valueOf}
+use Rattle.refusal.specs.Number.{numberOf}
 use Rattle.refusal.specs.declared.Refusal.{Refusal}
-use Rattle.refusal.specs.declared.Refusal.the-variants.{WrongLength, BadHeader, UnknownSync, OutOfTurn, BadState}
+use Rattle.refusal.specs.declared.Refusal.the-variants.{WrongLength, BadHeader, UnknownSync, OutOfTurn, BadFinal, TooShort, BadPacket, BadState}
 use Rattle.refusal.specs.declared.Verdict.{Verdict}
 use Rattle.refusal.specs.declared.Verdict.the-variants.{Done, Refused}
 use Rattle.crc.specs.Crc.{crc}
@@ -28,13 +29,14 @@ use Rattle.decode.specs.declared.LsfRead.{LsfRead}
 use Rattle.decode.specs.Bodies.{lsfReadOf, streamReadOf, packetReadOf}
 use Rattle.automaton.specs.Seen.{Seen, head, piece, end, unread, streams, isStream}
 use Rattle.automaton.specs.Step as step
-use Rattle.automaton.specs.Runs.{Slots, state, memory, handed, said}
+use Rattle.automaton.specs.Runs.{AllSound, state, memory, handed, said}
 use Rattle.automaton.proofs.Cases.{never, by-test}
 use Rattle.automaton.specs.Demand3.{ByAnswer}
 use Rattle.automaton.proofs.ByAnswer.{by-answer}
-use Rattle.automaton.specs.Opened.{Pieces, Opened}
+use Rattle.automaton.specs.Opened.{Pieces}
 use Rattle.automaton.proofs.Opened.{opened}
-use Rattle.automaton.proofs.Held.{held}
+use Rattle.automaton.proofs.Refusals.{expected, in-turn}
+use Rattle.automaton.proofs.Demand3.{over-seen}
 use Rattle.receiver.specs.declared.Receiver.{Receiver}
 use Rattle.receiver.specs.declared.Late.{Late}
 use Rattle.receiver.specs.declared.Answer.{Answer}
@@ -47,6 +49,7 @@ use Rattle.demands.specs.Slots.{HeaderSlot, holding}
 use Rattle.demands.specs.EachSlot.{EachSlot}
 use Rattle.demands.proofs.AsSeen.{all-sound, after-is, heardFor, heard-is}
 use Rattle.demands.proofs.Sees.{header-says}
+use Rattle.demands.proofs.Alone.{not-alone}
 
 -- ---- what a slot says, by its sync word
 
@@ -139,11 +142,6 @@ turn : (b : Bool) (k : ℕ) → cond b (step.stored k) (step.refused OutOfTurn) 
 turn true k e = refl
 turn false k e = never (cc)
 
-expected : (st : step.State) (k : ℕ) (past : Slots) → step.expects st k ≡ true → Opened st past → Pieces k past
-expected step.idle k past e o = never (cc)
-expected (step.inPacket n) k past e o = subst (λ (j : ℕ). Pieces j past) (sym (eqb-true k n e)) o
-expected (step.gathering j q) k past e o = never (cc)
-
 -- ---- type bit 0
 
 by-bit : (n : ℕ) → n < 2 → streams (modeOf n) ≡ eqb n 1
@@ -229,8 +227,18 @@ module _ (m : List ℕ) (past : Fed) (x : List ℕ) (room : length m ≡ 825) (l
 
       if : (b : List ℕ) × (see x ≡ piece k b) × Pieces k (seenOf past) → heard m past x .answer ≡ Answers.Stored k
       if (b, slot, g) =
-          let st : state (seenOf past) ≡ step.inPacket k = held m (seenOf past) (g .before) (g .h) (g .bs) (g .slots) (g .packets) (all-sound past) .turn ∙ ap step.inPacket (g .many) in
-          ap (λ (q : Heard). q .answer) (at-seen (piece k b) slot) ∙ rw (st, eq-eqb k k refl)
+          ap (λ (q : Heard). q .answer) (at-seen (piece k b) slot) ∙ rw (in-turn m (seenOf past) (all-sound past) k g, eq-eqb k k refl)
+
+  -- ---- refused pieces
+
+  -- a number from 8 on, which no slot is refused with by itself, is heard exactly when the automaton says it
+  refused-when : (why : Refusal) → 8 ≤ numberOf why → {A : Type 0}
+      → (AllSound (seenOf past) → (see x ≡ unread why → ⊥) → (said m (seenOf past) (see x) .answer ≡ step.refused why) ↔ A)
+      → (heard m past x .answer ≡ Answers.Refused why) ↔ A
+  refused-when why over when =
+      let is = ap (λ (q : Heard). q .answer) (heard-is m room past x long) in
+      let k = when (all-sound past) (not-alone x why long over) in
+      (λ e. k .0 (refused-only _ why (sym is ∙ e)), λ a. is ∙ ap answerFor (k .1 a))
 
 header-answered : (m : List ℕ) (past : Fed) (x h : List ℕ) → length m ≡ 825 → HeaderSlot x h
     → heard m past x ≡ record { answer = Answers.Header; header = h; stream = noStream; bytes = [] }
@@ -264,6 +272,10 @@ each-slot =
       packet-refused =
           λ m past x why room long e q. unread-heard m past x room long why
           (packet-says x e ∙ ap (λ (v : Verdict). packetBy v (packetReadOf (drop 2 x) .frame .counter) (packetReadOf (drop 2 x) .frame .payload)) q);
+      refused-8 = λ m past x room long. refused-when m past x room long OutOfTurn (omega arith) (over-seen .refused-8 m (seenOf past) (see x));
+      refused-9 = λ m past x room long. refused-when m past x room long BadFinal (omega arith) (over-seen .refused-9 m (seenOf past) (see x));
+      refused-10 = λ m past x room long. refused-when m past x room long TooShort (omega arith) (over-seen .refused-10 m (seenOf past) (see x));
+      refused-11 = λ m past x room long. refused-when m past x room long BadPacket (omega arith) (over-seen .refused-11 m (seenOf past) (see x));
       refusal-keeps = λ m past x why room long e. refusal-keeps m past x room long why e;
       refused-1 = refused-1;
       refused-12 = refused-12;

@@ -5,5 +5,6 @@ pub mod Clean
 pub mod Sees
 pub mod CleanRuns
 pub mod Demand3
+pub mod Alone
 pub mod EachSlot
 pub mod Demand1

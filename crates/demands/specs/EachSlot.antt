@@ -1,23 +1,23 @@
 -- What a slot is answered with at any point of a run, and what it leaves: the lines of document 01's table and of its receiver section, one by
 -- one. Assumes nothing.
 use mathlib.Core.Path.{_≡_}
-use mathlib.Core.Logic.{_↔_}
+use mathlib.Core.Logic.{_↔_, _⊎_}
 use mathlib.Core.Bool.{true, false}
 use mathlib.Core.List.{List, []}
-use Prim.Native.Nat.{ℕ, _%_}
+use Prim.Native.Nat.{ℕ, _+_, _*_, _%_, _≤_, _<_}
 use lib.Dec.{eqb}
 use lib.ListN.{length, getD, take, drop}
 use Rattle.laws.specs.Value.{valueOf}
 use Rattle.refusal.specs.declared.Refusal.{Refusal}
-use Rattle.refusal.specs.declared.Refusal.the-variants.{WrongLength, BadHeader, UnknownSync, BadState}
+use Rattle.refusal.specs.declared.Refusal.the-variants.{WrongLength, BadHeader, UnknownSync, OutOfTurn, BadFinal, TooShort, BadPacket, BadState}
 use Rattle.refusal.specs.declared.Verdict.the-variants.{Done, Refused}
 use Rattle.crc.specs.Crc.{crc}
 use Rattle.protocol.specs.declared.StreamFrame.{StreamFrame}
 use Rattle.decode.specs.Bodies.{lsfReadOf, streamReadOf, packetReadOf}
-use Rattle.automaton.specs.Seen.{piece, isStream}
+use Rattle.automaton.specs.Seen.{piece, final, isStream}
 use Rattle.automaton.specs.Step as step
 use Rattle.automaton.specs.Runs.{state, memory}
-use Rattle.automaton.specs.Opened.{Pieces}
+use Rattle.automaton.specs.Opened.{Pieces, Closing}
 use Rattle.receiver.specs.declared.Receiver.{Receiver}
 use Rattle.receiver.specs.declared.Late.{Late}
 use Rattle.receiver.specs.declared.Answer.the-variants as Answers
@@ -60,6 +60,23 @@ pub record EachSlot : Type 0 where
       → streamReadOf (drop 2 x) .answer ≡ Refused why → heard m past x .answer ≡ Answers.Refused why
   pub packet-refused : (m : List ℕ) (past : Fed) (x : List ℕ) (why : Refusal) → length m ≡ 825 → length x ≡ 48 → valueOf (take 2 x) ≡ 0x75FF
       → packetReadOf (drop 2 x) .answer ≡ Refused why → heard m past x .answer ≡ Answers.Refused why
+  -- 8 is answered exactly when the slot reads as frame k and the slots just gone are not a packet header and frames 0 to k - 1, or it reads as a
+  -- final frame and they are no packet header and frames 0 upward: no packet is open.
+  pub refused-8 : (m : List ℕ) (past : Fed) (x : List ℕ) → length m ≡ 825 → length x ≡ 48
+      → (heard m past x .answer ≡ Answers.Refused OutOfTurn)
+      ↔ (((k : ℕ) × (b : List ℕ) × (see x ≡ piece k b) × (Pieces k (seenOf past) → ⊥))
+      ⊎ ((len : ℕ) × (b : List ℕ) × (see x ≡ final len b) × ((n : ℕ) → Pieces n (seenOf past) → ⊥)))
+  -- 9, exactly when it reads as a final frame of length 0 or over 25, with a packet open.
+  pub refused-9 : (m : List ℕ) (past : Fed) (x : List ℕ) → length m ≡ 825 → length x ≡ 48
+      → (heard m past x .answer ≡ Answers.Refused BadFinal) ↔ ((c : Closing (seenOf past) (see x)) × ((c .len ≡ 0) ⊎ (25 < c .len)))
+  -- 10, exactly when it reads as a final frame of length 1 to 25, with a packet of n frames open, and the total 25n + length is under 3.
+  pub refused-10 : (m : List ℕ) (past : Fed) (x : List ℕ) → length m ≡ 825 → length x ≡ 48
+      → (heard m past x .answer ≡ Answers.Refused TooShort)
+      ↔ ((c : Closing (seenOf past) (see x)) × (1 ≤ c .len) × (c .len ≤ 25) × (25 * c .n + c .len < 3))
+  -- 11, exactly when it reads so, the total is 3 or more, and the CRC over the total bytes, those of all the frames joined, is not zero.
+  pub refused-11 : (m : List ℕ) (past : Fed) (x : List ℕ) → length m ≡ 825 → length x ≡ 48
+      → (heard m past x .answer ≡ Answers.Refused BadPacket)
+      ↔ ((c : Closing (seenOf past) (see x)) × (1 ≤ c .len) × (c .len ≤ 25) × (3 ≤ 25 * c .n + c .len) × (crc (c .bytes) ≡ 0 → ⊥))
   -- Whatever the refusal of a slot, it carries no data, memory is untouched and the receiver idle.
   pub refusal-keeps : (m : List ℕ) (past : Fed) (x : List ℕ) (why : Refusal) → length m ≡ 825 → length x ≡ 48 → heard m past x .answer ≡ Answers.Refused why
       → (heard m past x ≡ record { answer = Answers.Refused why; header = noHeader; stream = noStream; bytes = [] })

@@ -6,7 +6,7 @@ use Prim.Native.Nat.{ℕ, zero, suc, _+_, _-_, _*_, _/_, _%_, _^_, _<_, _≤_}
 use native.Mathlib.Nat.{zero-div}
 use native.Mathlib.Omega.{arith}
 use lib.Dec.{eqb, eqb→eq}
-use lib.ListN.{length, getD, take, drop, replicate, length-append, length-replicate}
+use lib.ListN.{length, getD, take, drop, replicate}
 use lib.Seq.{drop-drop, ext-getD, getD-drop}
 use Rattle.laws.specs.Tabled.{tabled}
 use Rattle.laws.specs.Value.{Bytes}
@@ -187,15 +187,6 @@ octuple-is : (n : ℕ) → octuple n ≡ 8 * n
 octuple-is zero = refl
 octuple-is (suc n) = omega (arith, octuple-is n)
 
-take-octuple : (n : ℕ) (s : List ℕ) → take (octuple n) (bitsOf s) ≡ bitsOf (take n s)
-unfolding bitsOf
-take-octuple zero s = refl
-take-octuple (suc n) [] = refl
-take-octuple (suc n) (x ∷ s) = ap (λ (l : List Bool). eight x ++ l) (take-octuple n s)
-
-pub take-bits : (n : ℕ) (s : List ℕ) → take (8 * n) (bitsOf s) ≡ bitsOf (take n s)
-take-bits n s = ap (λ (m : ℕ). take m (bitsOf s)) (sym (octuple-is n)) ∙ take-octuple n s
-
 drop-octuple : (n : ℕ) (s : List ℕ) → drop (octuple n) (bitsOf s) ≡ bitsOf (drop n s)
 unfolding bitsOf
 drop-octuple zero s = refl
@@ -211,9 +202,3 @@ drop-bits n s = ap (λ (m : ℕ). drop m (bitsOf s)) (sym (octuple-is n)) ∙ dr
 pub padded-bit : (s : List ℕ) (n k : ℕ) → getD (bitsOf (s ++ replicate n 0)) k false ≡ getD (bitsOf s) k false
 padded-bit s n k =
     bit-at (s ++ replicate n 0) k ∙ ap (λ (x : ℕ). odd (x / 2 ^ (7 - k % 8))) (padded-at 0 s n (k / 8)) ∙ sym (bit-at s k)
-
--- what is packed into bytes that hold more comes back, and then zeros
-pub bits-bytes-padded : (n m : ℕ) (l : List Bool) → length l + m ≡ 8 * n → bitsOf (bytesOf n l) ≡ l ++ replicate m false
-bits-bytes-padded n m l h =
-    ap bitsOf (bytes-alike n l (l ++ replicate m false) (λ k b. sym (padded-at false l m k)))
-    ∙ bits-bytes n (l ++ replicate m false) (length-append l (replicate m false) ∙ ap (λ (k : ℕ). length l + k) (length-replicate m false) ∙ h)

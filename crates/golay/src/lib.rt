@@ -166,47 +166,45 @@ fn lower() -> [u32; 64]
 }
 
 // The code is linear: a codeword is that of the upper six bits xored with that of the lower.
-fn word_of(value: u32) -> u32
-    requires { ⌜ value < 4096 ⌝ }
+fn word_of(high: &[u32; 64], low: &[u32; 64], value: u32) -> u32
+    requires { ⌜ (now high ≡ tabled (λ (k : ℕ). golay (k * 64)) 64) × (now low ≡ tabled golay 64) × (value < 4096) ⌝ }
     ensures { λ r. ⌜ r ≡ golay value ⌝ }
 {
-    let high = upper();
-    let low = lower();
     high[(value / 64) as usize] ^ low[(value % 64) as usize]
 }
 
-fn is_word(word: u32) -> bool
-    requires { ⌜ word < 2 ^ 24 ⌝ }
+fn is_word(high: &[u32; 64], low: &[u32; 64], word: u32) -> bool
+    requires { ⌜ (now high ≡ tabled (λ (k : ℕ). golay (k * 64)) 64) × (now low ≡ tabled golay 64) × (word < 2 ^ 24) ⌝ }
     ensures { λ r. ⌜ r ≡ isWord word ⌝ }
 {
-    word_of(word / 4096) == word
+    word_of(high, low, word / 4096) == word
 }
 
 // One, two or three places are flipped until a codeword is found.
-fn search(word: u32) -> Reading
-    requires { ⌜ word < 2 ^ 24 ⌝ }
+fn search(high: &[u32; 64], low: &[u32; 64], word: u32) -> Reading
+    requires { ⌜ (now high ≡ tabled (λ (k : ℕ). golay (k * 64)) 64) × (now low ≡ tabled golay 64) × (word < 2 ^ 24) ⌝ }
     ensures { λ r. ⌜ r ≡ nearBelow 4096 word ⌝ }
 {
     let mut hit = word;
-    let mut found = is_word(word);
+    let mut found = is_word(high, low, word);
     if !found {
         'search: for i in 0..24u32 {
             let a = word ^ (1 << i);
-            if is_word(a) {
+            if is_word(high, low, a) {
                 hit = a;
                 found = true;
                 break 'search;
             }
             for j in i + 1..24 {
                 let b = a ^ (1 << j);
-                if is_word(b) {
+                if is_word(high, low, b) {
                     hit = b;
                     found = true;
                     break 'search;
                 }
                 for k in j + 1..24 {
                     let c = b ^ (1 << k);
-                    if is_word(c) {
+                    if is_word(high, low, c) {
                         hit = c;
                         found = true;
                         break 'search;
@@ -235,7 +233,9 @@ pub fn encode(value: u16) -> Codeword
     if 4096 <= value {
         return Codeword::Refused(Refusal::OutOfRange);
     }
-    Codeword::Word(word_of(wide(value)))
+    let high = upper();
+    let low = lower();
+    Codeword::Word(word_of(&high, &low, wide(value)))
 }
 
 // The data of the only codeword within three flipped bits.
@@ -245,5 +245,7 @@ pub fn decode(word: u32) -> Reading
     if 0x1000000 <= word {
         return Reading::Refused(Refusal::BadGolay);
     }
-    search(word)
+    let high = upper();
+    let low = lower();
+    search(&high, &low, word)
 }

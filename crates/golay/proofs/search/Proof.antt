@@ -13,22 +13,22 @@ use Rattle.golay.proofs.search.Statement.{statement}
 use Rattle.golay.proofs.search.Tie as tie
 
 abbrev Inv-loop2 : tie.InvT-loop2
-Inv-loop2 w hit₀ found₀ i a j b k₀ hit found k = (j < k) × (k ≤ 24) × (hit ≡ hit₀) × (found ≡ found₀) × Clear3 b j k
+Inv-loop2 high low w hit₀ found₀ i a j b k₀ hit found k = (j < k) × (k ≤ 24) × (hit ≡ hit₀) × (found ≡ found₀) × Clear3 b j k
 
 abbrev μ-loop2 : tie.MeasureT-loop2
-μ-loop2 w hit₀ found₀ i a j b k₀ hit found k = 24 - k
+μ-loop2 high low w hit₀ found₀ i a j b k₀ hit found k = 24 - k
 
 abbrev Inv-loop : tie.InvT-loop
-Inv-loop w hit₀ found₀ i a j₀ hit found j = (i < j) × (j ≤ 24) × (hit ≡ hit₀) × (found ≡ found₀) × Clear2 a i j
+Inv-loop high low w hit₀ found₀ i a j₀ hit found j = (i < j) × (j ≤ 24) × (hit ≡ hit₀) × (found ≡ found₀) × Clear2 a i j
 
 abbrev μ-loop : tie.MeasureT-loop
-μ-loop w hit₀ found₀ i a j₀ hit found j = 24 - j
+μ-loop high low w hit₀ found₀ i a j₀ hit found j = 24 - j
 
 abbrev Inv-search : tie.InvT-search
-Inv-search w hit₀ found₀ i₀ hit found i = (i ≤ 24) × (hit ≡ hit₀) × (found ≡ found₀) × Clear1 w i
+Inv-search high low w hit₀ found₀ i₀ hit found i = (i ≤ 24) × (hit ≡ hit₀) × (found ≡ found₀) × Clear1 w i
 
 abbrev μ-search : tie.MeasureT-search
-μ-search w hit₀ found₀ i₀ hit found i = 24 - i
+μ-search high low w hit₀ found₀ i₀ hit found i = 24 - i
 
 is-word-requires : tie.Need-is-word-requires Inv-loop2 μ-loop2 Inv-loop μ-loop Inv-search μ-search
 is-word-requires c κs = c .pre
@@ -41,7 +41,9 @@ shl-a c = omega arith
 
 is-word-requires-2 :
     tie.Need-is-word-requires-2 Inv-loop2 μ-loop2 Inv-loop μ-loop Inv-search μ-search
-is-word-requires-2 c κs = flip-lt (c .before .before .before .before .args .word) (c .before .search .i) (c .before .before .before .before .pre) (omega arith)
+is-word-requires-2 c κs =
+    let p = c .before .before .before .before .pre in
+    (p .0, p .1, flip-lt (c .before .before .before .before .args .word) (c .before .search .i) (p .2) (omega arith))
 
 add-j : tie.Need-add-j Inv-loop2 μ-loop2 Inv-loop μ-loop Inv-search μ-search
 add-j c = omega arith
@@ -57,7 +59,8 @@ is-word-requires-3 :
 is-word-requires-3 c κs =
     let w = c .before .before .before .before .before .before .before .before .args .word in
     let i = c .before .before .before .before .before .search .i in
-    flip-lt (flip w i) (c .before .loop .j) (flip-lt w i (c .before .before .before .before .before .before .before .before .pre) (omega arith)) (omega arith)
+    let p = c .before .before .before .before .before .before .before .before .pre in
+    (p .0, p .1, flip-lt (flip w i) (c .before .loop .j) (flip-lt w i (p .2) (omega arith)) (omega arith))
 
 add-k : tie.Need-add-k Inv-loop2 μ-loop2 Inv-loop μ-loop Inv-search μ-search
 add-k c = omega arith
@@ -74,7 +77,8 @@ is-word-requires-4 c κs =
     let w = c .before .before .before .before .before .before .before .before .before .before .before .before .args .word in
     let i = c .before .before .before .before .before .before .before .before .before .search .i in
     let j = c .before .before .before .before .before .loop .j in
-    flip-lt (flip (flip w i) j) (c .before .loop2 .k) (flip-lt (flip w i) j (flip-lt w i (c .before .before .before .before .before .before .before .before .before .before .before .before .pre) (omega arith)) (omega arith)) (omega arith)
+    let p = c .before .before .before .before .before .before .before .before .before .before .before .before .pre in
+    (p .0, p .1, flip-lt (flip (flip w i) j) (c .before .loop2 .k) (flip-lt (flip w i) j (flip-lt w i (p .2) (omega arith)) (omega arith)) (omega arith))
 
 add-k-2 : tie.Need-add-k-2 Inv-loop2 μ-loop2 Inv-loop μ-loop Inv-search μ-search
 add-k-2 c = omega arith
@@ -136,7 +140,7 @@ two w i j h l = flip-apart (flip w i) j w 1 l (one w i h)
 joined : (c : tie.Joined1 Inv-loop2 μ-loop2 Inv-loop μ-loop Inv-search μ-search) → Met (c .before .before .args .word) (c .if1 .hit) (c .if1 .found)
 joined c =
     let w = c .before .before .args .word in
-    let pre : w < 2 ^ 24 = c .before .before .pre in
+    let pre : w < 2 ^ 24 = c .before .before .pre .2 in
     let asked = c .before .is-word .ensures in
     ⊎-elim
     (λ v.
@@ -177,8 +181,8 @@ joined c =
 hit-at : (c : tie.After-row-known Inv-loop2 μ-loop2 Inv-loop μ-loop Inv-search μ-search) → Hit (c .before .before .before .before .args .word) (c .before .before .if1 .hit)
 hit-at c = met-hit (c .before .before .before .before .args .word) (c .before .before .if1 .hit) (c .before .before .if1 .found) (joined (c .before .before)) (c .before .if5 .taken)
 
-cast-t22 : tie.Need-cast-t22 Inv-loop2 μ-loop2 Inv-loop μ-loop Inv-search μ-search
-cast-t22 c = let h = hit-at c in omega arith
+cast-t24 : tie.Need-cast-t24 Inv-loop2 μ-loop2 Inv-loop μ-loop Inv-search μ-search
+cast-t24 c = let h = hit-at c in omega arith
 
 returns : tie.Need-returns Inv-loop2 μ-loop2 Inv-loop μ-loop Inv-search μ-search
 returns c =
@@ -189,7 +193,7 @@ returns-2 : tie.Need-returns-2 Inv-loop2 μ-loop2 Inv-loop μ-loop Inv-search μ
 returns-2 c =
     let w = c .before .before .before .args .word in
     let n = met-none w (c .before .if1 .hit) (c .before .if1 .found) (joined (c .before)) (c .if5 .left) in
-    none-read w (c .before .before .before .pre) (n .0) (n .1)
+    none-read w (c .before .before .before .pre .2) (n .0) (n .1)
 
 pub search-spec : {M : Type 1} → statement M
 search-spec =
@@ -222,6 +226,6 @@ search-spec =
     add-i
     search-less
     search-again
-    cast-t22
+    cast-t24
     returns
     returns-2)

@@ -20,20 +20,14 @@ in-parts v h =
     let e : v / 64 * 64 + v % 64 ≡ v = omega arith in
     sym (golay-xor (v / 64 * 64) (v % 64) (omega arith) (omega arith)) ∙ ap golay (xor-shifted (v / 64) 6 (v % 64) (mod-lt v (lit< tt)) ∙ e)
 
-upper-requires : tie.Need-upper-requires
-upper-requires c κs = search needs
-
-lower-requires : tie.Need-lower-requires
-lower-requires c κs = search needs
-
 cast-result : tie.Need-cast-result
 cast-result c = search needs
 
 mul-result : tie.Need-mul-result
 mul-result c = search needs
 
-array-read-result : tie.Need-array-read-result
-array-read-result c = search needs
+element-copy-out-result : tie.Need-element-copy-out-result
+element-copy-out-result c = search needs
 
 cast-result-2 : tie.Need-cast-result-2
 cast-result-2 c = search needs
@@ -41,27 +35,27 @@ cast-result-2 c = search needs
 mul-result-2 : tie.Need-mul-result-2
 mul-result-2 c = search needs
 
-array-read-result-2 : tie.Need-array-read-result-2
-array-read-result-2 c = search needs
+element-copy-out-result-2 : tie.Need-element-copy-out-result-2
+element-copy-out-result-2 c = search needs
 
 returns : tie.Need-returns
 returns c =
-    let v = c .before .before .args .value in
-    let h : v < 4096 = c .before .before .pre in
-    let up : getD (c .before .upper .result) (v / 64) 0 ≡ golay (v / 64 * 64) = ap (λ (t : List ℕ). getD t (v / 64) 0) (c .before .upper .ensures) ∙ tabled-at (λ (k : ℕ). golay (k * 64)) 64 (v / 64) 0 (omega arith) in
-    let low : getD (c .lower .result) (v % 64) 0 ≡ golay (v % 64) = ap (λ (t : List ℕ). getD t (v % 64) 0) (c .lower .ensures) ∙ tabled-at golay 64 (v % 64) 0 (omega arith) in
-    ap₂ bitXor up low ∙ in-parts v h
+    let a = c .before .before .args in
+    let pre = c .before .before .pre in
+    let v = a .value in
+    let h : v < 4096 = pre .2 in
+    let up : getD (a .high .now) (v / 64) 0 ≡ golay (v / 64 * 64) = ap (λ (t : List ℕ). getD t (v / 64) 0) (pre .0) ∙ tabled-at (λ (k : ℕ). golay (k * 64)) 64 (v / 64) 0 (omega arith) in
+    let down : getD (a .low .now) (v % 64) 0 ≡ golay (v % 64) = ap (λ (t : List ℕ). getD t (v % 64) 0) (pre .1) ∙ tabled-at golay 64 (v % 64) 0 (omega arith) in
+    ap₂ bitXor up down ∙ in-parts v h
 
 pub word-of-spec : {M : Type 1} → statement M
 word-of-spec =
     tie.close
     (tie.spec
-    upper-requires
-    lower-requires
     cast-result
     mul-result
-    array-read-result
+    element-copy-out-result
     cast-result-2
     mul-result-2
-    array-read-result-2
+    element-copy-out-result-2
     returns)

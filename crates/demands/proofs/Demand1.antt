@@ -14,7 +14,7 @@ use lib.ListN.{length, replicate}
 use borrow.Author.Tests.{eq-eqb, ne-eqb, eqb-true, lt-ltb, le-ltb}
 use Rattle.refusal.specs.Number.{numberOf, saidOf}
 use Rattle.refusal.specs.declared.Refusal.{Refusal}
-use Rattle.refusal.specs.declared.Refusal.the-variants.{WrongLength, OutOfTurn, BadFinal, TooShort, BadPacket, BadState}
+use Rattle.refusal.specs.declared.Refusal.the-variants.{WrongLength, OutOfRange, OutOfTurn, BadFinal, TooShort, BadPacket, BadState}
 use Rattle.refusal.specs.declared.Verdict.{Verdict}
 use Rattle.refusal.specs.declared.Verdict.the-variants.{Done, Refused}
 use Rattle.refusal.proofs.Different.{different}
@@ -34,21 +34,26 @@ use Rattle.address.proofs.EachKind.{read-short}
 use Rattle.address.proofs.Exactly as addresses
 use Rattle.golay.proofs.Only as golay
 use Rattle.fec.specs.declared.Kind.{Kind}
+use Rattle.fec.specs.declared.Kind.the-variants as kind
 use Rattle.fec.specs.declared.Coded.{Coded}
 use Rattle.fec.specs.Kinds as fec
 use Rattle.fec.specs.Nearest.{readOf}
 use Rattle.fec.proofs.Bodies.{encoded-long, encoded-short, decoded-long, decoded-short}
 use Rattle.fec.proofs.When as when
 use Rattle.protocol.specs.declared.LichCollection.{LichCollection}
+use Rattle.protocol.specs.declared.LsfFrame.{LsfFrame}
+use Rattle.protocol.specs.declared.StreamFrame.{StreamFrame}
+use Rattle.protocol.specs.declared.PacketFrame.{PacketFrame}
 use Rattle.protocol.specs.declared.PacketFrameCounter.{PacketFrameCounter}
 use Rattle.protocol.specs.Lich.{partSaid, withPart, collected, setOf}
-use Rattle.protocol.specs.Header.{answered}
+use Rattle.protocol.specs.Fields.{channelBits, setField}
+use Rattle.protocol.specs.Header.{answered, newSaid, newBytes}
 use Rattle.protocol.proofs.Exactly as headers
 use Rattle.encode.specs.declared.Lich.{Lich}
 use Rattle.encode.specs.declared.Body.{Body}
 use Rattle.encode.specs.Lich.{lichOf}
-use Rattle.encode.specs.Bodies.{lsfBodyOf, streamBodyOf, countable, packetBodyOf}
-use Rattle.encode.specs.Symbols.{symbolsBy, symbolsFrom}
+use Rattle.encode.specs.Bodies.{written, unwritten, lsfBodyOf, streamBodyOf, countable, packetBodyOf}
+use Rattle.encode.specs.Symbols.{symbolsBy, symbolsFrom, bodySymbolsOf, lsfSymbolsOf, streamSymbolsOf, packetSymbolsOf}
 use Rattle.encode.proofs.Exactly as writing
 use Rattle.decode.specs.Bodies.{lsfReadOf, noLsf, streamReadOf, noStream, packetReadOf, noPacket}
 use Rattle.decode.specs.Symbols.{bodyFrom, bodyReadOf, initialOf, lsfParsedOf, streamParsedOf, packetParsedOf}
@@ -67,7 +72,7 @@ use Rattle.receiver.specs.declared.Answer.the-variants as Answers
 use Rattle.receiver.specs.declared.Received.{Received}
 use Rattle.receiver.specs.See.{see}
 use Rattle.receiver.specs.Receiver.{stateOf, within, fits, unchanged, taken, receivedOf, memoryOf}
-use Rattle.demands.specs.Demand1.{ByLength, Demand1}
+use Rattle.demands.specs.Demand1.{zeros, ByLength, Demand1}
 use Rattle.demands.proofs.Alone.{some-number, Alone, unread-number}
 use Rattle.demands.proofs.EachSlot.{refused-only, refused-1, refused-12}
 
@@ -145,6 +150,31 @@ module _ (why : Refusal) where
       by : (v : Verdict) → symbolsBy v k (b .bytes) .answer ≡ Refused why → symbolsBy v k (b .bytes) .symbols ≡ replicate 192 (fin false 0 (pos 0))
       by Done e = never (cc)
       by (Refused w) e = refl
+
+module _ (why : Refusal) where
+  body-sent-none : (k : Kind) (body : List ℕ) → bodySymbolsOf k body .answer ≡ Refused why → bodySymbolsOf k body .symbols ≡ zeros
+  unfolding bodySymbolsOf
+  body-sent-none k body = sent-none why k (cond (eqb (length body) 46) (written body) (unwritten WrongLength))
+
+  header-sent-none : (f : LsfFrame) → lsfSymbolsOf f .answer ≡ Refused why → lsfSymbolsOf f .symbols ≡ zeros
+  unfolding lsfSymbolsOf
+  header-sent-none f = sent-none why kind.Header (lsfBodyOf (f .bytes))
+
+  stream-sent-none : (f : StreamFrame) → streamSymbolsOf f .answer ≡ Refused why → streamSymbolsOf f .symbols ≡ zeros
+  unfolding streamSymbolsOf
+  stream-sent-none f = sent-none why kind.Stream (streamBodyOf (f .«lich_idx») (f .«lich_part») (f .«frame_number») (f .«end_of_stream») (f .«stream_data»))
+
+  packet-sent-none : (f : PacketFrame) → packetSymbolsOf f .answer ≡ Refused why → packetSymbolsOf f .symbols ≡ zeros
+  unfolding packetSymbolsOf
+  packet-sent-none f = sent-none why kind.Packet (packetBodyOf (f .counter) (f .payload))
+
+  body-parsed-none : (xs : List Float) → bodyReadOf xs .answer ≡ Refused why → bodyReadOf xs .bytes ≡ replicate 46 0
+  unfolding bodyReadOf
+  body-parsed-none xs = by-test (Blank why) (eqb (length xs) 192) (λ t e. never (cc)) (λ t e. refl)
+
+  body-initial-none : (xs : List Float) → initialOf xs .answer ≡ Refused why → initialOf xs .bytes ≡ replicate 46 0
+  unfolding initialOf
+  body-initial-none xs = by-test (Blank why) (eqb (length xs) 192) (λ t e. never (cc)) (λ t e. refl)
 
 -- ---- symbols
 
@@ -320,6 +350,7 @@ uncoded-only k rx = elim (ℕ-discrete (length rx) (fec.codedBytes k)) [
 pub demand-1 : Demand1
 demand-1 =
     record {
+      the-numbers = (refl, refl, refl, refl, refl, refl, refl, refl, refl, refl, refl, refl);
       numbers-differ = different;
       bit-read-2 = getting.refused-when;
       bit-read = getting.answered-when;
@@ -368,12 +399,20 @@ demand-1 =
       address-read-none = λ s why. address-read-none why s;
       address-written-none = λ a s why. address-written-none why a s;
       coded-none = λ k d why. coded-none why k d;
-      header-none = λ v s why. header-none why v s;
+      header-from-none = λ s why. header-none why (cond (eqb (length s) 30) Done (Refused WrongLength)) s;
+      channel-none = λ c s why. header-none why (cond (leb c 15) Done (Refused OutOfRange)) (setField channelBits c s);
+      address-set-none = λ p a cs s why. header-none why (address.encodedOf a cs .answer) (setField p (address.addressValue a cs) s);
+      header-new-none = λ m d a s b t why. header-none why (newSaid a s b t) (newBytes m d a s b t);
       lich-none = λ c part why. lich-none why c part;
       header-written-none = λ s why. header-written-none why s;
       stream-written-none = λ i part f last s why. stream-written-none why i part f last s;
       packet-written-none = λ c s why. packet-written-none why c s;
-      sent-none = λ k b why. sent-none why k b;
+      body-sent-none = λ k body why. body-sent-none why k body;
+      header-sent-none = λ f why. header-sent-none why f;
+      stream-sent-none = λ f why. stream-sent-none why f;
+      packet-sent-none = λ f why. packet-sent-none why f;
+      body-parsed-none = λ xs why. body-parsed-none why xs;
+      body-initial-none = λ xs why. body-initial-none why xs;
       slot-only = unread-number;
       receiver-1 = receiver-1;
       receiver-12 = receiver-12;

@@ -1,5 +1,5 @@
 -- Demand 2 holds. Assumes nothing.
-use mathlib.Core.Path.{_≡_, sym, ap, _∙_}
+use mathlib.Core.Path.{_≡_, refl, sym, ap, _∙_}
 use Rattle.refusal.specs.declared.Verdict.the-variants.{Done}
 use Rattle.fec.proofs.Unique.{nearest-is, only-nearest}
 use Rattle.protocol.specs.declared.LsfFrame.{LsfFrame}
@@ -13,6 +13,7 @@ use Rattle.decode.specs.Bodies.{lsfReadOf, streamReadOf, packetReadOf}
 use Rattle.decode.proofs.When as when
 use Rattle.decode.proofs.When.{lsf-when}
 use Rattle.decode.proofs.LichBack as lich
+use Rattle.decode.proofs.SymbolsBack.{body-back}
 use Rattle.decode.proofs.RoundTrip as back
 use Rattle.decode.proofs.RoundTrip.{lsf-back, lsf-symbols-back, stream-symbols-back, packet-symbols-back}
 use Rattle.demands.specs.Frames.{Header, Stream, Packet, streamBody, packetBody, trimmed}
@@ -37,6 +38,12 @@ demand-2 =
     record {
       one-word = nearest-is;
       no-other = λ p n rx u v a b. sym (only-nearest p n rx u a) ∙ only-nearest p n rx v b;
+      plans = (refl, refl, refl, refl, refl, refl, refl, refl, refl);
+      packet-says = λ b x e. rw e refl;
+      countable-frame = λ i. refl;
+      countable-final = λ n. refl;
+      trimmed-frame = λ s i. refl;
+      trimmed-final = λ s n. refl;
       header-when = lsf-when;
       stream-when = when.stream-when;
       packet-when = when.packet-when;
@@ -48,6 +55,7 @@ demand-2 =
           λ f h. stream-symbols-back (f .«lich_idx») (f .«lich_part») (f .«frame_number») (f .«end_of_stream») (f .«stream_data») (h .index)
           (h .part-long) (h .part) (h .number) (h .long) (h .bytes);
       packet-symbols = λ f h. packet-symbols-back (f .counter) (f .payload) (h .number) (h .long) (h .bytes);
+      body-back = body-back;
       lich-flips = λ counter part s small long bytes twelve are near. lich.lich-flips counter part long bytes small s twelve are near;
       header-one = λ f g a b e. ap (λ (r : LsfRead). r .frame) (sym (header-read f a) ∙ ap lsfReadOf e ∙ header-read g b);
       stream-one = λ f g a b e. ap (λ (r : StreamRead). r .frame) (sym (stream-read f a) ∙ ap streamReadOf e ∙ stream-read g b);

@@ -39,10 +39,11 @@ use Rattle.automaton.proofs.Refusals.{expected, in-turn}
 use Rattle.automaton.proofs.Demand3.{over-seen}
 use Rattle.receiver.specs.declared.Receiver.{Receiver}
 use Rattle.receiver.specs.declared.Late.{Late}
+use Rattle.receiver.specs.declared.Late.the-variants as Lates
 use Rattle.receiver.specs.declared.Answer.{Answer}
 use Rattle.receiver.specs.declared.Answer.the-variants as Answers
 use Rattle.receiver.specs.See.{headerBy, headerSeen, seenStream, streamBy, streamSeen, packetBy, packetSeen, see}
-use Rattle.receiver.specs.Receiver.{within, noHeader, noStream, fits, lateFor, answerFor, headerFor, unchanged, receivedOf, memoryOf}
+use Rattle.receiver.specs.Receiver.{within, noHeader, noStream, fits, lateFor, answerFor, headerFor, streamFor, unchanged, receivedOf, memoryOf}
 use Rattle.receiver.specs.Runs.{Fed, _▹_, Held, after, Heard, heard, seenOf}
 use Rattle.demands.specs.Frames.{Header}
 use Rattle.demands.specs.Slots.{HeaderSlot, holding}
@@ -253,6 +254,40 @@ pub refused-12 : (r : Receiver) (x m : List ℕ) → fits x m ≡ true → withi
 unfolding receivedOf memoryOf
 refused-12 r x m e w = (rw (e, w), rw (e, w))
 
+-- ---- what stands beside an answer
+
+header-by : (a : step.Answer) → (answerFor a ≡ Answers.Header → ⊥) → (answerFor a ≡ Answers.Stream Lates.Header → ⊥) → headerFor a ≡ noHeader
+header-by (step.header h) n l = absurd (n refl)
+header-by (step.stored k) n l = refl
+header-by (step.packet total) n l = refl
+header-by (step.fields c p f step.nothing) n l = refl
+header-by (step.fields c p f (step.late h)) n l = absurd (l refl)
+header-by (step.fields c p f step.spoiled) n l = refl
+header-by step.ended n l = refl
+header-by (step.refused why) n l = refl
+
+stream-by : (a : step.Answer) → ((l : Late) → answerFor a ≡ Answers.Stream l → ⊥) → streamFor a ≡ noStream
+stream-by (step.header h) n = refl
+stream-by (step.stored k) n = refl
+stream-by (step.packet total) n = refl
+stream-by (step.fields c p f l) n = absurd (n (lateFor l) refl)
+stream-by step.ended n = refl
+stream-by (step.refused why) n = refl
+
+module _ (m : List ℕ) (past : Fed) (x : List ℕ) (room : length m ≡ 825) (long : length x ≡ 48) where
+  beside : heard m past x ≡ heardFor (said m (seenOf past) (see x))
+  beside = heard-is m room past x long
+
+  answer-is : heard m past x .answer ≡ answerFor (said m (seenOf past) (see x) .answer)
+  answer-is = ap (λ (h : Heard). h .answer) beside
+
+  header-beside : (heard m past x .answer ≡ Answers.Header → ⊥) → (heard m past x .answer ≡ Answers.Stream Lates.Header → ⊥) → heard m past x .header ≡ noHeader
+  header-beside n l =
+      ap (λ (h : Heard). h .header) beside ∙ header-by (said m (seenOf past) (see x) .answer) (λ e. n (answer-is ∙ e)) (λ e. l (answer-is ∙ e))
+
+  stream-beside : ((l : Late) → heard m past x .answer ≡ Answers.Stream l → ⊥) → heard m past x .stream ≡ noStream
+  stream-beside n = ap (λ (h : Heard). h .stream) beside ∙ stream-by (said m (seenOf past) (see x) .answer) (λ l e. n l (answer-is ∙ e))
+
 pub each-slot : EachSlot
 each-slot =
     record {
@@ -262,6 +297,8 @@ each-slot =
       type-bit = type-bit;
       stored-exactly = λ m past x k room long. stored-exactly m past x room long k;
       stream-answered = λ m past x f room long e q. stream-answered m past x room long f e q;
+      header-beside = header-beside;
+      stream-beside = stream-beside;
       end-answered = end-answered;
       refused-7 = λ m past x room long a b c d. unread-heard m past x room long UnknownSync (unknown-says x a b c d);
       header-refused = λ m past x why room long e q. unread-heard m past x room long why (header-sync x e ∙ ap (λ (v : Verdict). headerBy v (lsfReadOf (drop 2 x) .frame .bytes)) q);

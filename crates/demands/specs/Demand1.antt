@@ -11,8 +11,7 @@ use lib.ListN.{length, replicate}
 use Rattle.laws.specs.Value.{Bytes}
 use Rattle.refusal.specs.Number.{numberOf, saidOf}
 use Rattle.refusal.specs.declared.Refusal.{Refusal}
-use Rattle.refusal.specs.declared.Refusal.the-variants.{WrongLength, TooFar, BadGolay, BadState}
-use Rattle.refusal.specs.declared.Verdict.{Verdict}
+use Rattle.refusal.specs.declared.Refusal.the-variants.{WrongLength, OutOfRange, TooFar, BadGolay, BadHeader, BadAddress, UnknownSync, OutOfTurn, BadFinal, TooShort, BadPacket, BadState}
 use Rattle.refusal.specs.declared.Verdict.the-variants.{Refused}
 use Rattle.bits.specs.Places as bits
 use Rattle.interleave.specs.Interleave.{interleavedOf}
@@ -36,13 +35,12 @@ use Rattle.protocol.specs.declared.StreamFrame.{StreamFrame}
 use Rattle.protocol.specs.declared.PacketFrame.{PacketFrame}
 use Rattle.protocol.specs.declared.PacketFrameCounter.{PacketFrameCounter}
 use Rattle.protocol.specs.Fields.{Place}
-use Rattle.protocol.specs.Header.{answered, fromOf, addressSet, channelSet, newOf}
+use Rattle.protocol.specs.Header.{fromOf, addressSet, channelSet, newOf}
 use Rattle.protocol.specs.Lich.{setOf}
 use Rattle.protocol.specs.When.{FromExactly, ChannelExactly, NewExactly, PartExactly}
-use Rattle.encode.specs.declared.Body.{Body}
 use Rattle.encode.specs.Lich.{lichOf}
 use Rattle.encode.specs.Bodies.{lsfBodyOf, streamBodyOf, packetBodyOf}
-use Rattle.encode.specs.Symbols.{symbolsFrom, bodySymbolsOf, lsfSymbolsOf, streamSymbolsOf, packetSymbolsOf}
+use Rattle.encode.specs.Symbols.{bodySymbolsOf, lsfSymbolsOf, streamSymbolsOf, packetSymbolsOf}
 use Rattle.encode.specs.When.{StreamExactly, PacketExactly, BodyExactly}
 use Rattle.decode.specs.Bodies.{lsfReadOf, noLsf, streamReadOf, noStream, packetReadOf, noPacket}
 use Rattle.decode.specs.Symbols.{bodyFrom, bodyReadOf, initialOf, lsfParsedOf, streamParsedOf, packetParsedOf}
@@ -57,7 +55,15 @@ use Rattle.receiver.specs.Receiver.{within, fits, receivedOf, memoryOf}
 abbrev pub ByLength : ℕ → ℕ → ℕ → Type 0
 ByLength long asked n = ((long ≡ asked → ⊥) → n ≡ 1) × (long ≡ asked → n ≡ 0)
 
+-- 192 symbols that say nothing
+abbrev pub zeros : List Float
+zeros = replicate 192 (fin false 0 (pos 0))
+
 pub record Demand1 : Type 0 where
+  -- document 01's twelve numbers
+  pub the-numbers : (numberOf WrongLength ≡ 1) × (numberOf OutOfRange ≡ 2) × (numberOf TooFar ≡ 3) × (numberOf BadGolay ≡ 4)
+      × (numberOf BadHeader ≡ 5) × (numberOf BadAddress ≡ 6) × (numberOf UnknownSync ≡ 7) × (numberOf OutOfTurn ≡ 8)
+      × (numberOf BadFinal ≡ 9) × (numberOf TooShort ≡ 10) × (numberOf BadPacket ≡ 11) × (numberOf BadState ≡ 12)
   -- no two refusals have one number
   pub numbers-differ : (a b : Refusal) → numberOf a ≡ numberOf b → a ≡ b
   -- a bit place, read or written: 2 past its bytes, which are then as they were
@@ -86,12 +92,16 @@ pub record Demand1 : Type 0 where
   pub uncoded-3 : (k : Kind) (rx : List ℕ) → (fec.decodedOf k rx ≡ notDecoded TooFar) ↔ Far k rx
   pub uncoded : (k : Kind) (rx b : List ℕ) → (fec.decodedOf k rx ≡ decoded b) ↔ Near k rx b
   pub uncoded-only : (k : Kind) (rx : List ℕ) → OneOf (saidOf (fec.decodedOf k rx .answer)) (0 ∷ 1 ∷ 3 ∷ [])
-  -- a header: 1 from bytes; 2 for a channel access number; 1 and then 6 for its addresses, set or new; each is `answered`
+  -- a header: 1 from bytes; 2 for a channel access number; 1 and then 6 for its addresses, set or new
   pub header-from : (s : List ℕ) → FromExactly s (saidOf (fromOf s .answer))
   pub channel-set : (c : ℕ) (s : List ℕ) → ChannelExactly c (saidOf (channelSet c s .answer))
   pub address-set : (p : Place) (a : Address) (cs s : List ℕ) → WrittenExactly a cs (saidOf (addressSet p a cs s .answer))
   pub header-new : (m : Mode) (d : DataType) (a : Address) (s : List ℕ) (b : Address) (t : List ℕ) → NewExactly a s b t (saidOf (newOf m d a s b t .answer))
-  pub header-none : (v : Verdict) (s : List ℕ) (why : Refusal) → answered v s .answer ≡ Refused why → answered v s .header .bytes ≡ replicate 30 0
+  pub header-from-none : (s : List ℕ) (why : Refusal) → fromOf s .answer ≡ Refused why → fromOf s .header .bytes ≡ replicate 30 0
+  pub channel-none : (c : ℕ) (s : List ℕ) (why : Refusal) → channelSet c s .answer ≡ Refused why → channelSet c s .header .bytes ≡ replicate 30 0
+  pub address-set-none : (p : Place) (a : Address) (cs s : List ℕ) (why : Refusal) → addressSet p a cs s .answer ≡ Refused why → addressSet p a cs s .header .bytes ≡ replicate 30 0
+  pub header-new-none : (m : Mode) (d : DataType) (a : Address) (s : List ℕ) (b : Address) (t : List ℕ) (why : Refusal)
+      → newOf m d a s b t .answer ≡ Refused why → newOf m d a s b t .header .bytes ≡ replicate 30 0
   -- a part set in a collection: 1, then 2; the collection is then as it was
   pub part-set : (c : ℕ) (part : List ℕ) (l : LichCollection) → PartExactly c part (saidOf (setOf c part l .answer))
   pub part-untouched : (c : ℕ) (part : List ℕ) (l : LichCollection) (why : Refusal) → setOf c part l .answer ≡ Refused why → setOf c part l .collection ≡ l
@@ -110,7 +120,10 @@ pub record Demand1 : Type 0 where
   pub header-sent : (f : LsfFrame) → FromExactly (f .bytes) (saidOf (lsfSymbolsOf f .answer))
   pub stream-sent : (f : StreamFrame) → StreamExactly (f .«lich_idx») (f .«lich_part») (f .«frame_number») (f .«stream_data») (saidOf (streamSymbolsOf f .answer))
   pub packet-sent : (f : PacketFrame) → PacketExactly (f .counter) (f .payload) (saidOf (packetSymbolsOf f .answer))
-  pub sent-none : (k : Kind) (b : Body) (why : Refusal) → symbolsFrom k b .answer ≡ Refused why → symbolsFrom k b .symbols ≡ replicate 192 (fin false 0 (pos 0))
+  pub body-sent-none : (k : Kind) (body : List ℕ) (why : Refusal) → bodySymbolsOf k body .answer ≡ Refused why → bodySymbolsOf k body .symbols ≡ zeros
+  pub header-sent-none : (f : LsfFrame) (why : Refusal) → lsfSymbolsOf f .answer ≡ Refused why → lsfSymbolsOf f .symbols ≡ zeros
+  pub stream-sent-none : (f : StreamFrame) (why : Refusal) → streamSymbolsOf f .answer ≡ Refused why → streamSymbolsOf f .symbols ≡ zeros
+  pub packet-sent-none : (f : PacketFrame) (why : Refusal) → packetSymbolsOf f .answer ≡ Refused why → packetSymbolsOf f .symbols ≡ zeros
   -- a LICH and bodies read: 1, then 3, then 4
   pub lich-read : (s : List ℕ) → Bytes s → LichWhen s
   pub header-read : (body : List ℕ) → LsfWhen body
@@ -118,6 +131,8 @@ pub record Demand1 : Type 0 where
   pub packet-read : (body : List ℕ) → PacketWhen body
   -- symbols read: 1 for other than 192, then as the body that they say
   pub body-parsed : (xs : List Float) → ByLength (length xs) 192 (saidOf (bodyReadOf xs .answer))
+  pub body-parsed-none : (xs : List Float) (why : Refusal) → bodyReadOf xs .answer ≡ Refused why → bodyReadOf xs .bytes ≡ replicate 46 0
+  pub body-initial-none : (xs : List Float) (why : Refusal) → initialOf xs .answer ≡ Refused why → initialOf xs .bytes ≡ replicate 46 0
   pub body-initial : (xs : List Float) → ByLength (length xs) 192 (saidOf (initialOf xs .answer))
   pub header-parsed-1 : (xs : List Float) → (length xs ≡ 192 → ⊥) → lsfParsedOf xs ≡ noLsf WrongLength
   pub header-parsed : (xs : List Float) → length xs ≡ 192 → lsfParsedOf xs ≡ lsfReadOf (bodyFrom xs)

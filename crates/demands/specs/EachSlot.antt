@@ -20,6 +20,7 @@ use Rattle.automaton.specs.Runs.{state, memory}
 use Rattle.automaton.specs.Opened.{Pieces, Closing}
 use Rattle.receiver.specs.declared.Receiver.{Receiver}
 use Rattle.receiver.specs.declared.Late.{Late}
+use Rattle.receiver.specs.declared.Late.the-variants as Lates
 use Rattle.receiver.specs.declared.Answer.the-variants as Answers
 use Rattle.receiver.specs.See.{see}
 use Rattle.receiver.specs.Receiver.{within, noHeader, noStream, fits, unchanged, receivedOf, memoryOf}
@@ -44,6 +45,11 @@ pub record EachSlot : Type 0 where
   pub stream-answered : (m : List ℕ) (past : Fed) (x : List ℕ) (f : StreamFrame) → length m ≡ 825 → length x ≡ 48 → valueOf (take 2 x) ≡ 0xFF5D
       → streamReadOf (drop 2 x) ≡ record { answer = Done; frame = f }
       → (l : Late) × (heard m past x .answer ≡ Answers.Stream l) × (heard m past x .stream ≡ f)
+  -- A header stands beside a header's answer and beside a late header alone, so not beside the mark "spoiled"; stream fields beside a stream's.
+  pub header-beside : (m : List ℕ) (past : Fed) (x : List ℕ) → length m ≡ 825 → length x ≡ 48 → (heard m past x .answer ≡ Answers.Header → ⊥)
+      → (heard m past x .answer ≡ Answers.Stream Lates.Header → ⊥) → heard m past x .header ≡ noHeader
+  pub stream-beside : (m : List ℕ) (past : Fed) (x : List ℕ) → length m ≡ 825 → length x ≡ 48
+      → ((l : Late) → heard m past x .answer ≡ Answers.Stream l → ⊥) → heard m past x .stream ≡ noStream
   -- The end is answered as end, its body unread, and leaves idle and memory alone.
   pub end-answered : (m : List ℕ) (past : Fed) (x : List ℕ) → length m ≡ 825 → length x ≡ 48 → valueOf (take 2 x) ≡ 0x555D
       → (heard m past x ≡ record { answer = Answers.Ended; header = noHeader; stream = noStream; bytes = [] })

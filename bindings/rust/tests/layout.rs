@@ -42,7 +42,7 @@ fn named(text: &str) -> BTreeSet<&str> {
 #[test]
 fn functions() {
     let header = named(include_str!("../../../include/m17.h"));
-    assert_eq!(header.len(), 50);
+    assert_eq!(header.len(), 51);
     assert_eq!(header, named(include_str!("../src/c.rs")), "declared");
     assert_eq!(header, named(include_str!("lengths.rs")), "called with right and wrong lengths");
 }

@@ -2,24 +2,25 @@
 use mathlib.Core.Path.{_≡_, refl, sym, ap, ap₂, _∙_}
 use mathlib.Core.Logic.{_↔_}
 use mathlib.Core.Bool.{true}
-use mathlib.Core.List.{List, _++_}
+use mathlib.Core.List.{List, [], _++_}
 use Prim.Native.Nat.{ℕ}
 use native.Mathlib.Decide.{ℕ-discrete}
 use lib.ListN.{length, drop}
 use borrow.Author.Tests.{eq-eqb}
 use Rattle.crc.specs.Crc.{crc}
-use Rattle.automaton.specs.Seen.{Fields, head}
+use Rattle.automaton.specs.Seen.{Fields, Seen, head, piece, final, stream, end, unread}
 use Rattle.automaton.specs.Step as step
 use Rattle.automaton.specs.Runs as runs
 use Rattle.automaton.specs.Runs.{Slots, _▸_, memory, Said, said, Packet, Six}
 use Rattle.automaton.proofs.Cases.{never}
 use Rattle.automaton.proofs.Demand3.{over-seen}
+use Rattle.receiver.specs.declared.Phase.the-variants.{Idle, Gathering}
 use Rattle.receiver.specs.declared.Receiver.{Receiver}
 use Rattle.receiver.specs.declared.Late.the-variants as Lates
 use Rattle.receiver.specs.declared.Answer.{Answer}
 use Rattle.receiver.specs.declared.Answer.the-variants as Answers
 use Rattle.receiver.specs.See.{see}
-use Rattle.receiver.specs.Receiver.{stateOf, within, fits, answerFor, headerFor, taken, receivedOf, memoryOf}
+use Rattle.receiver.specs.Receiver.{stateOf, within, fits, answerFor, headerFor, receivedFrom, taken, receivedOf, memoryOf}
 use Rattle.receiver.specs.Runs.{Fed, start, _▹_, _▹▹_, Held, after, Heard, heard, seenOf}
 use Rattle.demands.specs.Frames.{Header}
 use Rattle.demands.specs.Slots.{HeaderSlot}
@@ -168,6 +169,40 @@ unfolding receivedOf memoryOf
 same-meaning r r′ x m f w w′ e =
     (rw (f, w, w′) (ap (λ (st : step.State). taken st m (see x)) e), rw (f, w, w′) (ap (λ (st : step.State). step.kept st m (see x)) e))
 
+module _ (m : List ℕ) where
+  next-alike : (s : Seen) → step.next (step.gathering 0 []) s ≡ step.next step.idle s
+  unfolding step.next
+  next-alike (head h) = refl
+  next-alike (piece k b) = refl
+  next-alike (final len b) = refl
+  next-alike (stream c p f) = refl
+  next-alike end = refl
+  next-alike (unread why) = refl
+
+  answer-alike : (s : Seen) → step.answer (step.gathering 0 []) m s ≡ step.answer step.idle m s
+  unfolding step.answer
+  answer-alike (head h) = refl
+  answer-alike (piece k b) = refl
+  answer-alike (final len b) = refl
+  answer-alike (stream c p f) = refl
+  answer-alike end = refl
+  answer-alike (unread why) = refl
+
+  kept-alike : (s : Seen) → step.kept (step.gathering 0 []) m s ≡ step.kept step.idle m s
+  unfolding step.kept
+  kept-alike (head h) = refl
+  kept-alike (piece k b) = refl
+  kept-alike (final len b) = refl
+  kept-alike (stream c p f) = refl
+  kept-alike end = refl
+  kept-alike (unread why) = refl
+
+none-gathered : (q q′ x m : List ℕ) → fits x m ≡ true
+    → (receivedOf (record { phase = Gathering 0; parts = q }) x m ≡ receivedOf (record { phase = Idle; parts = q′ }) x m)
+    × (memoryOf (record { phase = Gathering 0; parts = q }) x m ≡ memoryOf (record { phase = Idle; parts = q′ }) x m)
+unfolding receivedOf memoryOf
+none-gathered q q′ x m f = (rw f (ap₂ receivedFrom (next-alike m (see x)) (answer-alike m (see x))), rw f (kept-alike m (see x)))
+
 pub demand-3 : Demand3
 demand-3 =
     record {
@@ -180,4 +215,5 @@ demand-3 =
       eleven = λ m past h f i room o good ranges. eleven h f o ranges m past i room good;
       clean-packet = λ m past h p room o good packets some few bytes zero-crc. clean-packet p some few bytes m past h room o good packets zero-crc;
       same-meaning = same-meaning;
+      none-gathered = none-gathered;
     }

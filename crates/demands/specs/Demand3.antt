@@ -11,6 +11,7 @@ use Rattle.laws.specs.Value.{Bytes}
 use Rattle.crc.specs.Crc.{crc}
 use Rattle.automaton.specs.Seen.{Fields, head, isStream}
 use Rattle.automaton.specs.Runs.{_▸_, memory, Packet, Six}
+use Rattle.receiver.specs.declared.Phase.the-variants.{Idle, Gathering}
 use Rattle.receiver.specs.declared.Receiver.{Receiver}
 use Rattle.receiver.specs.declared.Late.the-variants as Lates
 use Rattle.receiver.specs.declared.Answer.the-variants as Answers
@@ -56,3 +57,7 @@ pub record Demand3 : Type 0 where
   -- No answer depends on anything but the state's meaning, the slot and packet memory: parts not yet gathered do not matter.
   pub same-meaning : (r r′ : Receiver) (x m : List ℕ) → fits x m ≡ true → within (r .phase) ≡ true → within (r′ .phase) ≡ true → stateOf r ≡ stateOf r′
       → (receivedOf r x m ≡ receivedOf r′ x m) × (memoryOf r x m ≡ memoryOf r′ x m)
+  -- A state that gathers no part, which no run comes to, answers as idle does.
+  pub none-gathered : (q q′ x m : List ℕ) → fits x m ≡ true
+      → (receivedOf (record { phase = Gathering 0; parts = q }) x m ≡ receivedOf (record { phase = Idle; parts = q′ }) x m)
+      × (memoryOf (record { phase = Gathering 0; parts = q }) x m ≡ memoryOf (record { phase = Idle; parts = q′ }) x m)

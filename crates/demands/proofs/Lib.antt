@@ -8,3 +8,4 @@ pub mod Demand3
 pub mod Alone
 pub mod EachSlot
 pub mod Demand1
+pub mod FromC

@@ -3,7 +3,7 @@
 use mathlib.Core.Path.{_≡_}
 use mathlib.Core.Bool.{Bool, cond}
 use mathlib.Core.List.{List, _++_}
-use Prim.Native.Nat.{ℕ, _-_, _/_, _%_, _≤_, _<_}
+use Prim.Native.Nat.{ℕ, _+_, _*_, _-_, _/_, _%_, _≤_, _<_}
 use lib.Dec.{leb}
 use lib.ListN.{length, getD, take, replicate}
 use Rattle.laws.specs.Value.{Bytes}
@@ -22,7 +22,7 @@ use Rattle.encode.specs.Lich.{lichBytes}
 use Rattle.encode.specs.Bodies.{lsfBodyOf, countable}
 use Rattle.encode.specs.Symbols.{bodySymbolsOf, lsfSymbolsOf, streamSymbolsOf, packetSymbolsOf}
 use Rattle.decode.specs.declared.Counted.the-variants.{Counter}
-use Rattle.decode.specs.Lich.{wordAt, lichReadOf}
+use Rattle.decode.specs.Lich.{lichFrom, wordAt, lichReadOf}
 use Rattle.decode.specs.Bodies.{lsfReadOf, streamReadOf, packetBy, packetReadOf}
 use Rattle.decode.specs.Symbols.{bodyRead, bodyReadOf, lsfParsedOf, streamParsedOf, packetParsedOf}
 use Rattle.decode.specs.When.{LsfWhen, StreamWhen, PacketWhen}
@@ -60,6 +60,8 @@ pub record Demand2 : Type 0 where
   -- up to three flips in each Golay word leave the LICH reading as it was
   pub lich-flips : (counter : ℕ) (part s : List ℕ) → counter < 8 → length part ≡ 5 → Bytes part → length s ≡ 12 → Bytes s
       → ((j : ℕ) → j < 4 → apart (wordAt (lichBytes counter part) j) (wordAt s j) ≤ 3) → lichReadOf s ≡ record { answer = Counter counter; part = part }
+  -- the five last bits of a LICH's 48 are ignored
+  pub lich-low-bits : (u low : ℕ) → low < 32 → lichFrom (u * 32 + low) ≡ lichFrom (u * 32)
   -- two in-range frames with one body are one frame
   pub header-one : (f g : LsfFrame) → Header f → Header g → lsfBodyOf (f .bytes) .bytes ≡ lsfBodyOf (g .bytes) .bytes → f ≡ g
   pub stream-one : (f g : StreamFrame) → Stream f → Stream g → streamBody f ≡ streamBody g → f ≡ g

@@ -42,29 +42,30 @@ module _ (f : PacketFrame) (h : Packet f) where
   pub packet-read : packetReadOf (packetBody f) ≡ record { answer = Done; frame = trimmed f }
   packet-read = back.packet-back (f .counter) (f .payload) (h .number) (h .long) (h .bytes)
 
-low-a : (u low : ℕ) → low < 32 → (u * 32 + low) / 0x10000000000 ≡ u * 32 / 0x10000000000
-low-a u low h = omega arith
+-- the five bytes and the counter stand above the five last bits
+byte-0 : (u low : ℕ) → low < 32 → (u * 32 + low) / 0x10000000000 ≡ u * 32 / 0x10000000000
+byte-0 u low h = omega arith
 
-low-b : (u low : ℕ) → low < 32 → (u * 32 + low) % 0x10000000000 / 0x100000000 ≡ u * 32 % 0x10000000000 / 0x100000000
-low-b u low h = omega arith
+byte-1 : (u low : ℕ) → low < 32 → (u * 32 + low) % 0x10000000000 / 0x100000000 ≡ u * 32 % 0x10000000000 / 0x100000000
+byte-1 u low h = omega arith
 
-low-c : (u low : ℕ) → low < 32 → (u * 32 + low) % 0x100000000 / 0x1000000 ≡ u * 32 % 0x100000000 / 0x1000000
-low-c u low h = omega arith
+byte-2 : (u low : ℕ) → low < 32 → (u * 32 + low) % 0x100000000 / 0x1000000 ≡ u * 32 % 0x100000000 / 0x1000000
+byte-2 u low h = omega arith
 
-low-d : (u low : ℕ) → low < 32 → (u * 32 + low) % 0x1000000 / 0x10000 ≡ u * 32 % 0x1000000 / 0x10000
-low-d u low h = omega arith
+byte-3 : (u low : ℕ) → low < 32 → (u * 32 + low) % 0x1000000 / 0x10000 ≡ u * 32 % 0x1000000 / 0x10000
+byte-3 u low h = omega arith
 
-low-e : (u low : ℕ) → low < 32 → (u * 32 + low) % 0x10000 / 0x100 ≡ u * 32 % 0x10000 / 0x100
-low-e u low h = omega arith
+byte-4 : (u low : ℕ) → low < 32 → (u * 32 + low) % 0x10000 / 0x100 ≡ u * 32 % 0x10000 / 0x100
+byte-4 u low h = omega arith
 
-low-k : (u low : ℕ) → low < 32 → (u * 32 + low) % 256 / 32 ≡ u * 32 % 256 / 32
-low-k u low h = omega arith
+counter-is : (u low : ℕ) → low < 32 → (u * 32 + low) % 256 / 32 ≡ u * 32 % 256 / 32
+counter-is u low h = omega arith
 
 lich-low-bits : (u low : ℕ) → low < 32 → lichFrom (u * 32 + low) ≡ lichFrom (u * 32)
 lich-low-bits u low h =
     let five : take 5 (inBytes 6 (u * 32 + low)) ≡ take 5 (inBytes 6 (u * 32)) =
-    sym (first-five (u * 32 + low)) ∙ rw (low-a u low h, low-b u low h, low-c u low h, low-d u low h, low-e u low h) (first-five (u * 32)) in
-    ap₂ {C = LichRead} (λ (n : ℕ) (p : List ℕ). record { answer = Counter n; part = p }) (low-k u low h) five
+    sym (first-five (u * 32 + low)) ∙ rw (byte-0 u low h, byte-1 u low h, byte-2 u low h, byte-3 u low h, byte-4 u low h) (first-five (u * 32)) in
+    ap₂ {C = LichRead} (λ (n : ℕ) (p : List ℕ). record { answer = Counter n; part = p }) (counter-is u low h) five
 
 pub demand-2 : Demand2
 demand-2 =

@@ -1,4 +1,6 @@
 // Addresses: six bytes, high byte first, are a number, and the number says whose address it is.
+#![tactic(auto)]
+
 ghost use Rattle.std.specs.Prelude.{◌≡◌, cond, ◌<◌, ◌≤◌, length};
 ghost use Rattle.laws.specs.Value.{value_of, in_bytes};
 ghost use Rattle.address.specs.Callsign.{alphabet, upper, digit_of, callsign_of, known, callsign_value};

@@ -1,4 +1,6 @@
 // The bits of bytes: bit 0 is the top bit of byte 0.
+#![tactic(auto)]
+
 ghost use Rattle.std.specs.Prelude.{◌≡◌, false, ◌*◌, ◌<◌, length, get_or};
 ghost use Rattle.bits.specs.Bits.{bits_of, bit};
 ghost use Rattle.bits.specs.Places.{get_of, set_of, with_bit};

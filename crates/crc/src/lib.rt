@@ -1,4 +1,6 @@
 // CRC-16, polynomial 0x5935, start 0xFFFF, no reflection, no final xor.
+#![tactic(auto)]
+
 ghost use Rattle.std.specs.Prelude.{◌≡◌};
 ghost use Rattle.laws.specs.Tabled.{tabled};
 ghost use Rattle.crc.specs.Crc.{byte_remainder, crc_from, crc};

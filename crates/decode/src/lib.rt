@@ -1,4 +1,6 @@
 // Symbols to bodies, and bodies to fields.
+#![tactic(auto)]
+
 ghost use Rattle.std.specs.Prelude.{◌≡◌, false, ◌+◌, ◌*◌, ◌^◌, ◌<◌, length, get_or, drop};
 ghost use Rattle.refusal.specs.declared.Verdict.TheVariants.{Done};
 ghost use Rattle.bits.specs.Bits.{bit, byte_of};

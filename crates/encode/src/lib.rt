@@ -1,4 +1,6 @@
 // Fields to bodies, and bodies to symbols.
+#![tactic(auto)]
+
 ghost use Rattle.std.specs.Prelude.{◌≡◌, [], ◌∷◌, ◌++◌, ◌+◌, ◌-◌, ◌/◌, ◌^◌, ◌<◌, ◌≤◌, length, take, drop, replicate};
 ghost use Rattle.bits.specs.Bits.{odd};
 ghost use Rattle.golay.specs.Golay.{golay};

@@ -1,4 +1,6 @@
 // The convolutional code, its three puncturings, and the reading of the nearest word.
+#![tactic(auto)]
+
 ghost use Rattle.std.specs.Prelude.{◌≡◌, Bool, true, false, [], ◌∷◌, ℕ, ◌+◌, ◌*◌, ◌≤◌, ◌<◌, min, length, get_or, take, drop};
 ghost use Rattle.bits.specs.Bits.{bit, bits_of, byte_of, bytes_of};
 ghost use Rattle.fec.specs.Code.{◌⊕◌, sends, sent, code, flushed};

@@ -1,4 +1,6 @@
 // The extended Golay(24,12) code, for the outside crate cai_golay.
+#![tactic(auto)]
+
 ghost use Rattle.std.specs.Prelude.{◌≡◌, ℕ, ◌*◌, ◌^◌, ◌<◌};
 ghost use Rattle.laws.specs.Tabled.{tabled};
 ghost use Rattle.golay.specs.Golay.{golay, is_word, near_below, encoded_of, decoded_of};

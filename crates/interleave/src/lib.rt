@@ -1,4 +1,6 @@
 // Interleaving: bit i of 368 goes to place MAPPING[i].
+#![tactic(auto)]
+
 ghost use Rattle.std.specs.Prelude.{◌≡◌, false, ◌≤◌, ◌<◌, length, get_or, drop};
 ghost use Rattle.laws.specs.Tabled.{tabled};
 ghost use Rattle.bits.specs.Bits.{bit, bits_of, byte_of, bytes_of};

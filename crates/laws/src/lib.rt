@@ -1,1 +1,2 @@
 // Mathematics that the other crates cite: there is no code here.
+#![tactic(auto)]

@@ -1,5 +1,7 @@
 // The codec for C and Rust. A function that can refuse returns 0 or the number of its refusal, and writes what it answers
 // through lent memory, which a refusal leaves as it was.
+#![tactic(auto)]
+
 ghost use Rattle.std.specs.Prelude.{◌≡◌, length};
 ghost use Rattle.refusal.specs.Number.{said_of};
 ghost use Rattle.bits.specs.Bits.{bit};

@@ -1,5 +1,7 @@
 // What the programs share: bytes put into a buffer one after another, and text, numbers and bytes on standard output. Nothing can be
 // promised of what goes out.
+#![tactic(auto)]
+
 ghost use Rattle.std.specs.Prelude.{◌+◌, ◌≡◌};
 ghost use Rattle.print.specs.Appended.{room_for, appended};
 

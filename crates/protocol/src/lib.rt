@@ -1,4 +1,6 @@
 // Header fields, frames, and gathered LICH parts. Bytes 12 and 13 of a header, high byte first, are its type.
+#![tactic(auto)]
+
 ghost use Rattle.std.specs.Prelude.{◌≡◌, ◌++◌, ◌+◌, ◌≤◌, ◌<◌, length, take, drop};
 ghost use Rattle.laws.specs.Value.{value_of};
 ghost use Rattle.crc.specs.Crc.{crc};

@@ -1,4 +1,6 @@
 // Randomiser for frame payloads.
+#![tactic(auto)]
+
 ghost use Rattle.std.specs.Prelude.{◌≡◌};
 ghost use Rattle.random.specs.Random.{random_seq, xored};
 

@@ -1,4 +1,6 @@
 // Readings on the bench, and published vectors, from the compiled code. What it writes is held to the file stdout.
+#![tactic(auto)]
+
 use address::{Address, Heard};
 use bits::Bit;
 use encode::Body;

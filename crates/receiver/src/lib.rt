@@ -1,4 +1,6 @@
 // The slot receiver: what a slot of 48 bytes says is read by `decode`, and then taken as the automaton has it.
+#![tactic(auto)]
+
 ghost use Rattle.std.specs.Prelude.{◌≡◌, [], ◌++◌, ◌+◌, ◌*◌, ◌≤◌, ◌<◌, length, take, replicate, true};
 ghost use Rattle.automaton.specs.Seen.{head, piece, final};
 ghost use Rattle.automaton.specs.Step.{put, idle, in_packet, header, refused, kept};

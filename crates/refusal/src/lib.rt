@@ -1,4 +1,6 @@
 // The numbers under which the desk says no.
+#![tactic(auto)]
+
 ghost use Rattle.std.specs.Prelude.{◌≡◌};
 ghost use Rattle.refusal.specs.Number.{number_of, said_of};
 

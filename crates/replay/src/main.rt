@@ -3,6 +3,8 @@
 // The argument names a file of m17core's recorded answers: a line of text, then records, each a byte for its kind, the bytes asked about
 // and the answer. `data/README.md` has every field. A line on standard output for each kind says how many records there were and how
 // many of them were answered, were refused and differ; before these, the first record that differs is named by its place in the file.
+#![tactic(auto)]
+
 mod answer;
 mod asked;
 mod kinds;

@@ -22,6 +22,8 @@
 // An address is "callsign" and its characters, "reserved" and its number, "broadcast" or "invalid". A packet has two lines, packet and
 // text; a stream slot has a second line, late or spoiled, where it is the sixth of six parts. The last line has no slot's number: it is
 // "summary: " with the counts of slots, headers, packets and late headers (late), and of each refusal that came (refused-N).
+#![tactic(auto)]
+
 mod answers;
 mod line;
 mod part;

@@ -1,0 +1,14 @@
+-- `golay::decode` meets its contract. Assumes nothing.
+use Prim.Native.Nat.{◌^◌}
+use borrow.Author.Rules.{rules}
+use borrow.Author.Tests.{lt-ltb, le-ltb}
+use Rattle.golay.specs.Golay.{decoded_of}
+use Rattle.golay.proofs.decode.Goals as goal
+
+pub returns-then-word-ge16777216 : goal.returns-then-word-ge16777216
+unfolding decoded_of
+returns-then-word-ge16777216 c = simp (le-ltb c.args.word (2 ^ 24) c.if-word-ge16777216.true)
+
+pub returns : goal.returns
+unfolding decoded_of
+returns c = simp (lt-ltb c.args.word (2 ^ 24) c.if-word-ge16777216.false) c.search.ensures

@@ -1,0 +1,30 @@
+-- `golay::search` meets its contract: it leaves at a codeword within three flips, or has passed them all. Assumes nothing.
+use mathlib.Core.Path.{◌≡◌, refl, sym, ap, ◌∙◌}
+use Prim.Native.Nat.{ℕ, ◌-◌, ◌^◌, ◌<◌, ◌≤◌}
+use native.Mathlib.Omega.{arith}
+use mathlib.Core.Logic.{inl, inr, ⊎_elim}
+use Rattle.golay.specs.Golay.{apart, is_word}
+use lib.Dec.{lit≤}
+use native.Mathlib.Nat.{le_trans, le_of_eq}
+use borrow.Author.Tests.{not-true, not-false}
+use Rattle.golay.proofs.Clear.{flip, Clear1, Clear2, Clear3, more1, more2, more3}
+use Rattle.golay.proofs.Near.{Hit, Met, met_hit, met_none, flip-lt, flip-apart, apart_self, found_read, none_read}
+use Rattle.golay.proofs.search.Given as goal
+
+abbrev pub invariant-loop-k : goal.invariant-loop-k
+invariant-loop-k l = (l.j < l.k) × (l.k ≤ 24) × (l.hit ≡ l.initial.hit) × (l.found ≡ l.initial.found) × Clear3 l.b l.j l.k
+
+abbrev pub decreases-loop-k : goal.decreases-loop-k
+decreases-loop-k l = 24 - l.k
+
+abbrev pub invariant-loop-j : goal.invariant-loop-j
+invariant-loop-j l = (l.i < l.j) × (l.j ≤ 24) × (l.hit ≡ l.initial.hit) × (l.found ≡ l.initial.found) × Clear2 l.a l.i l.j
+
+abbrev pub decreases-loop-j : goal.decreases-loop-j
+decreases-loop-j l = 24 - l.j
+
+abbrev pub invariant-search : goal.invariant-search
+invariant-search l = (l.i ≤ 24) × (l.hit ≡ l.initial.hit) × (l.found ≡ l.initial.found) × Clear1 l.word l.i
+
+abbrev pub decreases-search : goal.decreases-search
+decreases-search l = 24 - l.i

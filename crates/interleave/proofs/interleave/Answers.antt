@@ -1,0 +1,23 @@
+-- `interleave::interleave` meets its contract. Assumes nothing.
+use mathlib.Core.Path.{sym, ap, ◌∙◌}
+use mathlib.Core.List.{List}
+use Prim.Native.Nat.{ℕ}
+use lib.ListN.{length}
+use borrow.Author.Tests.{eq-eqb, ne_eqb}
+use Rattle.refusal.specs.declared.Verdict.TheVariants.{Done}
+use Rattle.interleave.specs.declared.Interleaved.{Interleaved}
+use Rattle.bits.specs.Bits.{bytes_of}
+use Rattle.interleave.specs.Interleave.{interleaved_of}
+use Rattle.interleave.proofs.Twice.{length-interleaved}
+use borrow.Author.Rules.{rules}
+use Rattle.interleave.proofs.interleave.Goals as goal
+
+pub returns-then-payload-ne46 : goal.returns-then-payload-ne46
+unfolding interleaved_of
+returns-then-payload-ne46 c = simp (ne_eqb (length c.args.payload.now) 46 c.if-payload-ne46.true)
+
+pub returns : goal.returns
+unfolding interleaved_of
+returns c =
+    simp (eq-eqb (length c.args.payload.now) 46 c.if-payload-ne46.false)
+    (ap {B = Interleaved} (λ (b : List ℕ). record { answer = Done; bytes = b }) (c.packed.ensures ∙ ap (bytes_of 46) c.placed_bits-placed.ensures))

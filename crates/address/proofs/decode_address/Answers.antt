@@ -23,26 +23,26 @@ pub returns-then-value-eq0 : goal.returns-then-value-eq0
 returns-then-value-eq0 c =
     let v = c in
     c.without_callsign-then-value-eq0.ensures
-    ∙ read_as v.args.encoded.now v.value_of_lem.result v.if-encoded-ne6.false v.value_of_lem.ensures.0
-    (invalid_at v.value_of_lem.result (omega arith))
+    ∙ read_as v.args.encoded.now v.value_of-value.result v.if-encoded-ne6.false v.value_of-value.ensures.0
+    (invalid_at v.value_of-value.result (omega arith))
 
 pub returns-then-value-le262143999999999 : goal.returns-then-value-le262143999999999
 returns-then-value-le262143999999999 c =
     let v = c in
     ap (λ (s : List ℕ). record { answer = Read Callsign; callsign = s }) c.decode_base_40.ensures
-    ∙ read_as v.args.encoded.now v.value_of_lem.result v.if-encoded-ne6.false v.value_of_lem.ensures.0
-    (callsign_at v.value_of_lem.result (λ e. omega arith) (omega arith))
+    ∙ read_as v.args.encoded.now v.value_of-value.result v.if-encoded-ne6.false v.value_of-value.ensures.0
+    (callsign_at v.value_of-value.result (λ e. omega arith) (omega arith))
 
 pub returns-then-value-le281474976710654 : goal.returns-then-value-le281474976710654
 returns-then-value-le281474976710654 c =
     let v = c in
     c.without_callsign-then-value-le281474976710654.ensures
-    ∙ read_as v.args.encoded.now v.value_of_lem.result v.if-encoded-ne6.false v.value_of_lem.ensures.0
-    (reserved_at v.value_of_lem.result (omega arith) (omega arith))
+    ∙ read_as v.args.encoded.now v.value_of-value.result v.if-encoded-ne6.false v.value_of-value.ensures.0
+    (reserved_at v.value_of-value.result (omega arith) (omega arith))
 
 pub returns : goal.returns
 returns c =
     let v = c in
     c.without_callsign-2.ensures
-    ∙ read_as v.args.encoded.now v.value_of_lem.result v.if-encoded-ne6.false v.value_of_lem.ensures.0
-    (broadcast_at v.value_of_lem.result (omega arith))
+    ∙ read_as v.args.encoded.now v.value_of-value.result v.if-encoded-ne6.false v.value_of-value.ensures.0
+    (broadcast_at v.value_of-value.result (omega arith))

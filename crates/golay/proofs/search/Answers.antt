@@ -1,4 +1,5 @@
 -- `golay::search` meets its contract: it leaves at a codeword within three flips, or has passed them all. Assumes nothing.
+use mathlib.Core.Bool.{true}
 use mathlib.Core.Path.{◌≡◌, refl, sym, ap, ◌∙◌}
 use Prim.Native.Nat.{ℕ, ◌-◌, ◌^◌, ◌<◌, ◌≤◌}
 use native.Mathlib.Omega.{arith}
@@ -10,6 +11,7 @@ use borrow.Author.Tests.{not-true, not-false}
 use Rattle.golay.proofs.Clear.{flip, Clear1, Clear2, Clear3, more1, more2, more3}
 use Rattle.golay.proofs.Near.{Hit, Met, met_hit, met_none, flip-lt, flip-apart, apart_self, found_read, none_read}
 use Rattle.golay.proofs.search.Goals as goal
+use Rattle.golay.proofs.search.Goals.{then-not-found+else-search-test, then-not-found+then-search-test+then-is_word, then-not-found+then-search-test+else-is_word+then-loop-j-test+then-is_word-2, then-not-found+then-search-test+else-is_word+then-loop-j-test+else-is_word-2+then-loop-k-test+then-is_word-3, else-not-found}
 
 pub is_word-requires : goal.is_word-requires
 is_word-requires c =
@@ -37,61 +39,76 @@ one w i h = flip-apart w i w 0 h (le_of_eq (apart_self w))
 two : (w i j : ℕ) → i < 24 → j < 24 → apart (flip (flip w i) j) w ≤ 2
 two w i j h l = flip-apart (flip w i) j w 1 l (one w i h)
 
--- where the ways out meet
-joined : (c : goal.Joined-not-found) → Met c.args.word c.if-not-found.hit c.if-not-found.found
-joined c =
-    let w = c.args.word in
-    let pre : w < 2 ^ 24 = c.requires.2 in
-    let asked = c.is_word-found.ensures in
-    ⊎_elim
-    (λ v.
-    let no_word = not-true c.is_word-found.result v.0.taken in
-    inr (v.4 ∙ v.1.inv.2 ∙ no_word, sym asked ∙ no_word, λ i h. v.1.inv.3 i (omega arith)))
-    (⊎_elim
-    (λ v.
-    let i = v.1.i in
-    let hi : i < 24 = v.2.taken in
-    inl (v.6, record { small = rw v.5 (flip-lt w i pre hi); word = ap is_word v.5 ∙ sym v.3.ensures ∙ v.4.taken; close = rw v.5 (le_trans (one w i hi) (lit≤ tt)) }))
-    (⊎_elim
-    (λ v.
-    let i = v.1.i in
-    let j = v.5.j in
-    let hi : i < 24 = v.2.taken in
-    let hj : j < 24 = v.6.taken in
-    inl (
-      v.10,
-      record { small = rw v.9 (flip-lt (flip w i) j (flip-lt w i pre hi) hj); word = ap is_word v.9 ∙ sym v.7.ensures ∙ v.8.taken; close = rw v.9 (le_trans (two w i j hi hj) (lit≤ tt)) },
-    ))
-    (⊎_elim
-    (λ v.
-    let i = v.1.i in
-    let j = v.5.j in
-    let k = v.9.k in
-    let hi : i < 24 = v.2.taken in
-    let hj : j < 24 = v.6.taken in
-    let hk : k < 24 = v.10.taken in
-    inl (
-      v.14,
-      record { small = rw v.13 (flip-lt (flip (flip w i) j) k (flip-lt (flip w i) j (flip-lt w i pre hi) hj) hk); word = ap is_word v.13 ∙ sym v.11.ensures ∙ v.12.taken; close = rw v.13 (flip-apart (flip (flip w i) j) k w 2 hk (two w i j hi hj)) },
-    ))
-    (λ v.
-    let yes-word = not-false c.is_word-found.result v.0.left in
-    inl (v.2 ∙ yes-word, record { small = rw v.1 pre; word = ap is_word v.1 ∙ sym asked ∙ yes-word; close = rw v.1 (le_trans (le_of_eq (apart_self w)) (lit≤ tt)) })))))
-    c.if-not-found.branch
+-- what is met at each way out
+no_flip : (w hit : ℕ) → w < 2 ^ 24 → hit ≡ w → is_word w ≡ true → Hit w hit
+no_flip w hit pre e h = record { small = rw e pre; word = ap is_word e ∙ h; close = rw e (le_trans (le_of_eq (apart_self w)) (lit≤ tt)) }
 
-hit-at : (c : goal.After-row_known-1) → Hit c.args.word c.if-not-found.hit
-hit-at c = met_hit c.args.word c.if-not-found.hit c.if-not-found.found (joined c) c.if-found.true
+one_hit : (w i hit : ℕ) → w < 2 ^ 24 → i < 24 → hit ≡ flip w i → is_word (flip w i) ≡ true → Hit w hit
+one_hit w i hit pre hi e h = record { small = rw e (flip-lt w i pre hi); word = ap is_word e ∙ h; close = rw e (le_trans (one w i hi) (lit≤ tt)) }
+
+two_hit : (w i j hit : ℕ) → w < 2 ^ 24 → i < 24 → j < 24 → hit ≡ flip (flip w i) j → is_word (flip (flip w i) j) ≡ true → Hit w hit
+two_hit w i j hit pre hi hj e h =
+    record { small = rw e (flip-lt (flip w i) j (flip-lt w i pre hi) hj); word = ap is_word e ∙ h; close = rw e (le_trans (two w i j hi hj) (lit≤ tt)) }
+
+three_hit : (w i j k hit : ℕ) → w < 2 ^ 24 → i < 24 → j < 24 → k < 24 → hit ≡ flip (flip (flip w i) j) k → is_word (flip (flip (flip w i) j) k) ≡ true → Hit w hit
+three_hit w i j k hit pre hi hj hk e h =
+    record {
+      small = rw e (flip-lt (flip (flip w i) j) k (flip-lt (flip w i) j (flip-lt w i pre hi) hj) hk);
+      word = ap is_word e ∙ h;
+      close = rw e (flip-apart (flip (flip w i) j) k w 2 hk (two w i j hi hj));
+    }
 
 pub overflow_cast-result : goal.overflow_cast-result
-overflow_cast-result c = let h = hit-at c in omega arith
+overflow_cast-result c =
+    let met : Met c.args.word c.if-not-found.hit c.if-not-found.found =
+    elim c.if-not-found.branch [
+      then-not-found+else-search-test w ↦
+        inr (w.found-is ∙ w.search.invariant.2 ∙ w.if-not-found.true, sym c.is_word-found.ensures ∙ w.if-not-found.true, λ i h. w.search.invariant.3 i (omega arith))
+    | then-not-found+then-search-test+then-is_word w ↦
+        inl (w.found-is, one_hit c.args.word w.search.i _ c.requires.2 w.search-test.true w.hit-is (sym w.is_word.ensures ∙ w.if-is_word.true))
+    | then-not-found+then-search-test+else-is_word+then-loop-j-test+then-is_word-2 w ↦
+        inl (w.found-is, two_hit c.args.word w.search.i w.loop-j.j _ c.requires.2 w.search-test.true w.loop-j-test.true w.hit-is (sym w.is_word-in-loop-j.ensures ∙ w.if-is_word-2.true))
+    | then-not-found+then-search-test+else-is_word+then-loop-j-test+else-is_word-2+then-loop-k-test+then-is_word-3 w ↦
+        inl (w.found-is, three_hit c.args.word w.search.i w.loop-j.j w.loop-k.k _ c.requires.2 w.search-test.true w.loop-j-test.true w.loop-k-test.true w.hit-is (sym w.is_word-in-loop-k.ensures ∙ w.if-is_word-3.true))
+    | else-not-found w ↦
+        inl (w.found-is ∙ w.if-not-found.false, no_flip c.args.word _ c.requires.2 w.hit-is (sym c.is_word-found.ensures ∙ w.if-not-found.false))
+    ] in
+    let h = met_hit c.args.word c.if-not-found.hit c.if-not-found.found met c.if-found.true in
+    let small : c.if-not-found.hit < 2 ^ 24 = h.small in
+    omega arith
 
 pub returns-then-found : goal.returns-then-found
 returns-then-found c =
-    let h = hit-at c in
+    let met : Met c.args.word c.if-not-found.hit c.if-not-found.found =
+    elim c.if-not-found.branch [
+      then-not-found+else-search-test w ↦
+        inr (w.found-is ∙ w.search.invariant.2 ∙ w.if-not-found.true, sym c.is_word-found.ensures ∙ w.if-not-found.true, λ i h. w.search.invariant.3 i (omega arith))
+    | then-not-found+then-search-test+then-is_word w ↦
+        inl (w.found-is, one_hit c.args.word w.search.i _ c.requires.2 w.search-test.true w.hit-is (sym w.is_word.ensures ∙ w.if-is_word.true))
+    | then-not-found+then-search-test+else-is_word+then-loop-j-test+then-is_word-2 w ↦
+        inl (w.found-is, two_hit c.args.word w.search.i w.loop-j.j _ c.requires.2 w.search-test.true w.loop-j-test.true w.hit-is (sym w.is_word-in-loop-j.ensures ∙ w.if-is_word-2.true))
+    | then-not-found+then-search-test+else-is_word+then-loop-j-test+else-is_word-2+then-loop-k-test+then-is_word-3 w ↦
+        inl (w.found-is, three_hit c.args.word w.search.i w.loop-j.j w.loop-k.k _ c.requires.2 w.search-test.true w.loop-j-test.true w.loop-k-test.true w.hit-is (sym w.is_word-in-loop-k.ensures ∙ w.if-is_word-3.true))
+    | else-not-found w ↦
+        inl (w.found-is ∙ w.if-not-found.false, no_flip c.args.word _ c.requires.2 w.hit-is (sym c.is_word-found.ensures ∙ w.if-not-found.false))
+    ] in
+    let h = met_hit c.args.word c.if-not-found.hit c.if-not-found.found met c.if-found.true in
     found_read c.args.word c.if-not-found.hit h.small h.word h.close
 
 pub returns-else-found : goal.returns-else-found
 returns-else-found c =
-    let w = c.args.word in
-    let n = met_none w c.if-not-found.hit c.if-not-found.found (joined c) c.if-found.false in
-    none_read w c.requires.2 n.0 n.1
+    let met : Met c.args.word c.if-not-found.hit c.if-not-found.found =
+    elim c.if-not-found.branch [
+      then-not-found+else-search-test w ↦
+        inr (w.found-is ∙ w.search.invariant.2 ∙ w.if-not-found.true, sym c.is_word-found.ensures ∙ w.if-not-found.true, λ i h. w.search.invariant.3 i (omega arith))
+    | then-not-found+then-search-test+then-is_word w ↦
+        inl (w.found-is, one_hit c.args.word w.search.i _ c.requires.2 w.search-test.true w.hit-is (sym w.is_word.ensures ∙ w.if-is_word.true))
+    | then-not-found+then-search-test+else-is_word+then-loop-j-test+then-is_word-2 w ↦
+        inl (w.found-is, two_hit c.args.word w.search.i w.loop-j.j _ c.requires.2 w.search-test.true w.loop-j-test.true w.hit-is (sym w.is_word-in-loop-j.ensures ∙ w.if-is_word-2.true))
+    | then-not-found+then-search-test+else-is_word+then-loop-j-test+else-is_word-2+then-loop-k-test+then-is_word-3 w ↦
+        inl (w.found-is, three_hit c.args.word w.search.i w.loop-j.j w.loop-k.k _ c.requires.2 w.search-test.true w.loop-j-test.true w.loop-k-test.true w.hit-is (sym w.is_word-in-loop-k.ensures ∙ w.if-is_word-3.true))
+    | else-not-found w ↦
+        inl (w.found-is ∙ w.if-not-found.false, no_flip c.args.word _ c.requires.2 w.hit-is (sym c.is_word-found.ensures ∙ w.if-not-found.false))
+    ] in
+    let n = met_none c.args.word c.if-not-found.hit c.if-not-found.found met c.if-found.false in
+    none_read c.args.word c.requires.2 n.0 n.1

@@ -58,9 +58,9 @@ loop-at-preserved c =
     let h : l.at < 368 = omega arith in
     let r = read a.args.payload.now l.at t.next_bit-step.result a.requires h t.next_bit-step.ensures in
     let p : t.next_bit-step.result.place ≡ l.at + 1 = ap (λ (s : Step). s.place) r in
-    let b = c.bit-1.given.0.0 in
+    let b = c.in-Value.b in
     let e = ap (λ (s : Step). s.bit) r in
-    let f = c.bit-1.given.1 in
+    let f = c.in-Value.is in
     let q : b ≡ bit (get_or (bits_of a.args.payload.now) l.at false) = cc in (
       omega arith,
       turn (bits_of a.args.payload.now) l.at l.new (get_or m.result l.at 0) b l.invariant.1 (place m.result l.at m.ensures h) q

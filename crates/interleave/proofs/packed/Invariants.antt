@@ -11,6 +11,10 @@ use Rattle.bits.proofs.Back.{bytes_tabled}
 use borrow.Author.Rules.{rules}
 use Rattle.interleave.proofs.packed.Given as goal
 
+abbrev pub byte : List Bool → ℕ → ℕ
+byte w k = byte_of (drop (8 * k) w)
+
+
 abbrev pub invariant-loop-i : goal.invariant-loop-i
 invariant-loop-i l = (l.i ≤ 46) × Filled (byte l.w) 46 0 l.out l.i
 

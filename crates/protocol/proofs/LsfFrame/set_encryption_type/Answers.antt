@@ -1,0 +1,15 @@
+-- `protocol::LsfFrame::set_encryption_type` meets its contract. Assumes nothing.
+use mathlib.Core.Path.{ap, ◌∙◌}
+use Rattle.protocol.specs.Numbers.{encryption_number}
+use Rattle.protocol.specs.Header.{header}
+use Rattle.protocol.proofs.TypeBits.{type_set}
+use native.Mathlib.Omega.{arith}
+use borrow.Author.Rules.{rules}
+use Rattle.protocol.proofs.LsfFrame.set_encryption_type.Goals as goal
+
+pub returns : goal.returns
+returns c =
+    let a = c.args in
+    ap header
+    (c.with_type-c.ensures
+    ∙ type_set 3 2 a.self.bytes (omega arith) c.type_of-t.result c.type_of-t.ensures.0 (encryption_number a.encryption_type) _ (omega arith))

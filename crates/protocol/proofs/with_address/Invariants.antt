@@ -1,0 +1,20 @@
+-- `protocol::with_address` meets its contract. The loop's invariant: the first `i` of the six bytes stand at their place. Assumes nothing.
+use mathlib.Core.Path.{◌≡◌, ap, ◌∙◌}
+use mathlib.Core.List.{List}
+use Prim.Native.Nat.{ℕ, ◌+◌, ◌-◌, ◌≤◌}
+use lib.ListN.{length}
+use lib.Seq.{paste, paste-zero}
+use Rattle.laws.specs.Value.{value_of}
+use Rattle.protocol.specs.Fields.{bytes_from, fields_of, renewed, set_field}
+use Rattle.protocol.proofs.Held.{held_thirty}
+use Rattle.laws.proofs.Pasted.{paste_more, paste_all}
+use Rattle.protocol.proofs.Whole.{Thirty, bytes_put}
+use native.Mathlib.Omega.{arith}
+use borrow.Author.Rules.{rules}
+use Rattle.protocol.proofs.with_address.Given as goal
+
+abbrev pub invariant-loop-i : goal.invariant-loop-i
+invariant-loop-i l = (l.i ≤ 6) × (length l.initial.b ≡ 30) × (length l.six ≡ 6) × (l.b ≡ paste l.initial.b l.at l.six l.i)
+
+abbrev pub decreases-loop-i : goal.decreases-loop-i
+decreases-loop-i l = 6 - l.i

@@ -3,13 +3,12 @@ use mathlib.Core.Path.{◌≡◌, refl, sym, ap, ◌∙◌}
 use mathlib.Core.Bool.{Bool, true, false, not, beq}
 use mathlib.Core.List.{List, [], ◌∷◌}
 use Prim.Native.Nat.{ℕ, ◌+◌, ◌*◌, ◌≤◌}
-use native.Mathlib.Nat.{add-zero}
 use native.Mathlib.Omega.{arith}
 use lib.Dec.{eqb}
-use lib.ListN.{length, take, drop, get_or, get_or-eq_default, length-take}
-use lib.Seq.{get_or-drop, get_or-take, length-take-le, ext_get_or}
+use lib.ListN.{length, take, get_or, get_or-eq_default, length-take}
+use lib.Seq.{get_or-take, length-take-le, ext_get_or}
 use Rattle.laws.proofs.Values.{Filled}
-use Rattle.bits.specs.Bits.{bit, bits_of, byte_of}
+use Rattle.bits.specs.Bits.{bit, bits_of}
 use Rattle.bits.proofs.Back.{length_bits}
 use Rattle.fec.specs.declared.Sends.{Sends}
 use Rattle.fec.specs.declared.Sends.TheVariants.{Both, First, Second}

@@ -10,7 +10,7 @@ ghost use Rattle.fec.specs.Search.{Outputs, count, sofar, step as Â«step_of_lemÂ
 
 use refusal::{Refusal, Verdict};
 
-#[derive(Drop)]
+#[derive(Clone, Copy)]
 pub enum Puncture {
     One,
     Two,
@@ -18,7 +18,7 @@ pub enum Puncture {
 }
 
 // What a step sends of its two coded bits.
-#[derive(Drop)]
+#[derive(Clone, Copy)]
 pub enum Sends {
     Both,
     First,

@@ -8,8 +8,7 @@ use lib.ListN.{get_or}
 use Rattle.laws.proofs.Every.{every, every_at}
 use Rattle.bits.specs.Bits.{bit}
 use Rattle.fec.specs.Search.{out1, out2, Outputs}
-use Rattle.fec.proofs.outputs.Statement.{statement}
-use Rattle.fec.proofs.outputs.Tie as tie
+use Rattle.fec.proofs.outputs.Goals as goal
 
 right : (ℕ → Bool) → ℕ → List (List ℕ) → ℕ → Bool
 right out j table k = eqb (get_or (get_or table k []) j 0) (bit (out k))
@@ -21,9 +20,6 @@ at_each out j table t i h = eqb→eq (get_or (get_or table i []) j 0) (bit (out 
 rule : (table : List (List ℕ)) → T (every (right out1 0 table) 32) → T (every (right out2 1 table) 32) → Outputs table
 rule table t u = record { first = at_each out1 0 table t; second = at_each out2 1 table u }
 
-returns : tie.Need-returns
+pub returns : goal.returns
 unfolding right out1 out2
 returns c = rule _ tt tt
-
-pub outputs-spec : {M : Type 1} → statement M
-outputs-spec = tie.close (tie.spec returns)

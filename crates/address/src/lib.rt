@@ -9,7 +9,7 @@ ghost use Rattle.address.specs.Address.{without_callsign, decoded_of, written, u
 use refusal::{Refusal, Verdict};
 
 // An address. The nine characters of a callsign stand beside it.
-#[derive(Drop)]
+#[derive(Clone, Copy)]
 pub enum Address {
     Invalid,
     Callsign,
@@ -18,21 +18,21 @@ pub enum Address {
 }
 
 // What reading six bytes answers.
-#[derive(Drop)]
+#[derive(Clone, Copy)]
 pub enum Heard {
     Read(Address),
     Refused(Refusal),
 }
 
 // The characters are nine zeros unless the address is a callsign.
-#[derive(Drop)]
+#[derive(Clone, Copy)]
 pub struct Reading {
     pub answer: Heard,
     pub callsign: [u8; 9],
 }
 
 // The bytes are six zeros on a refusal.
-#[derive(Drop)]
+#[derive(Clone, Copy)]
 pub struct Written {
     pub answer: Verdict,
     pub bytes: [u8; 6],

@@ -9,7 +9,7 @@ ghost use Rattle.bits.specs.Reader.{step_of};
 use refusal::{Refusal, Verdict};
 
 // What reading a bit answers.
-#[derive(Drop)]
+#[derive(Clone, Copy)]
 pub enum Bit {
     Value(u8),
     Refused(Refusal),
@@ -58,21 +58,21 @@ pub fn set_bit(bytes: &mut [u8], place: usize, value: u8) -> Verdict
 }
 
 // Bits in order: a lent slice, and the place of the bit that comes next.
-#[derive(Drop)]
+#[derive(Clone, Copy)]
 pub struct BitsIterator<'a> {
     pub bits: &'a [u8],
     pub idx: usize,
 }
 
 // The next bit, or the end.
-#[derive(Drop)]
+#[derive(Clone, Copy)]
 pub enum NextBit {
     Value(u8),
     End,
 }
 
 // What reading on answers, and the place where it goes on.
-#[derive(Drop)]
+#[derive(Clone, Copy)]
 pub struct Step {
     pub bit: NextBit,
     pub place: usize,

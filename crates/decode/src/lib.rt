@@ -16,33 +16,33 @@ use protocol::{LsfFrame, PacketFrame, PacketFrameCounter, StreamFrame};
 use refusal::{Refusal, Verdict};
 
 // What reading a LICH answers.
-#[derive(Drop)]
+#[derive(Clone, Copy)]
 pub enum Counted {
     Counter(u8),
     Refused(Refusal),
 }
 
 // The answer, and the five bytes of the part: zeros on a refusal.
-#[derive(Drop)]
+#[derive(Clone, Copy)]
 pub struct LichRead {
     pub answer: Counted,
     pub part: [u8; 5],
 }
 
 // The answer, and the frame: zeros on a refusal.
-#[derive(Drop)]
+#[derive(Clone, Copy)]
 pub struct LsfRead {
     pub answer: Verdict,
     pub frame: LsfFrame,
 }
 
-#[derive(Drop)]
+#[derive(Clone, Copy)]
 pub struct StreamRead {
     pub answer: Verdict,
     pub frame: StreamFrame,
 }
 
-#[derive(Drop)]
+#[derive(Clone, Copy)]
 pub struct PacketRead {
     pub answer: Verdict,
     pub frame: PacketFrame,

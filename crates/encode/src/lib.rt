@@ -15,21 +15,21 @@ use protocol::{LsfFrame, PacketFrame, PacketFrameCounter, StreamFrame};
 use refusal::{Refusal, Verdict};
 
 // The answer, and the twelve bytes: zeros on a refusal.
-#[derive(Drop)]
+#[derive(Clone, Copy)]
 pub struct Lich {
     pub answer: Verdict,
     pub bytes: [u8; 12],
 }
 
 // The answer, and the 46 bytes: zeros on a refusal.
-#[derive(Drop)]
+#[derive(Clone, Copy)]
 pub struct Body {
     pub answer: Verdict,
     pub bytes: [u8; 46],
 }
 
 // The answer, and the 192 symbols: zeros on a refusal.
-#[derive(Drop)]
+#[derive(Clone, Copy)]
 pub struct Symbols {
     pub answer: Verdict,
     pub symbols: [f32; 192],

@@ -25,7 +25,7 @@ pub enum Sends {
     Second,
 }
 
-#[derive(Drop)]
+#[derive(Clone, Copy)]
 pub enum Kind {
     Header,
     Stream,
@@ -33,7 +33,7 @@ pub enum Kind {
 }
 
 // What a kind is made of.
-#[derive(Drop)]
+#[derive(Clone, Copy)]
 pub struct Plan {
     // The bytes of its data.
     pub bytes: usize,
@@ -47,14 +47,14 @@ pub struct Plan {
 }
 
 // The answer of `encode`: the coded bits packed, unused bits zero. Zeros on a refusal.
-#[derive(Drop)]
+#[derive(Clone, Copy)]
 pub struct Coded {
     pub answer: Verdict,
     pub bytes: [u8; 46],
 }
 
 // The answer of `decode`: the bits read, packed, zeros past them. Zeros on a refusal.
-#[derive(Drop)]
+#[derive(Clone, Copy)]
 pub struct Decoded {
     pub answer: Verdict,
     pub bytes: [u8; 30],
@@ -233,7 +233,7 @@ fn number(b: bool) -> usize
 }
 
 // Where the reading goes on, and which row of prices holds for what was received.
-#[derive(Drop)]
+#[derive(Clone, Copy)]
 struct Heard {
     pub at: usize,
     pub row: usize,
@@ -367,7 +367,7 @@ fn backward(table: &[[u8; 32]; 244], n: usize, last: usize) -> [bool; 244]
     word
 }
 
-#[derive(Drop)]
+#[derive(Clone, Copy)]
 struct Reading {
     pub found: bool,
     pub word: [bool; 244],

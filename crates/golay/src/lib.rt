@@ -8,14 +8,14 @@ ghost use Rattle.golay.specs.Golay.{golay, is_word, near_below, encoded_of, deco
 use refusal::Refusal;
 
 // What writing answers: the 24-bit codeword.
-#[derive(Drop)]
+#[derive(Clone, Copy)]
 pub enum Codeword {
     Word(u32),
     Refused(Refusal),
 }
 
 // What reading answers: the 12 data bits.
-#[derive(Drop)]
+#[derive(Clone, Copy)]
 pub enum Reading {
     Data(u16),
     Refused(Refusal),

@@ -39,7 +39,7 @@ fn mapping() -> [usize; 368]
 }
 
 // The answer, and the bytes: zeros on a refusal.
-#[derive(Drop)]
+#[derive(Clone, Copy)]
 pub struct Interleaved {
     pub answer: Verdict,
     pub bytes: [u8; 46],

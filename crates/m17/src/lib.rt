@@ -60,7 +60,7 @@ fn give_number(answer: Verdict, number: u8, out: &mut u8) -> u8
 
 // A receiver's state. The phase: 0 idle, 1 in a packet expecting frame `count`, 2 gathering with `count` parts.
 #[repr(C)]
-#[derive(Drop)]
+#[derive(Clone, Copy)]
 pub struct M17Receiver {
     pub count: usize,
     pub phase: u8,
@@ -69,7 +69,7 @@ pub struct M17Receiver {
 
 // What a slot is answered with, and the next state.
 #[repr(C)]
-#[derive(Drop)]
+#[derive(Clone, Copy)]
 pub struct M17Received {
     pub number: usize,
     pub next: M17Receiver,

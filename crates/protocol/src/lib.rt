@@ -13,13 +13,13 @@ ghost use Rattle.protocol.specs.Lich.{empty, flags_set, set_of, assembled_of};
 use address::Address;
 use refusal::{Refusal, Verdict};
 
-#[derive(Drop)]
+#[derive(Clone, Copy)]
 pub enum Mode {
     Packet,
     Stream,
 }
 
-#[derive(Drop)]
+#[derive(Clone, Copy)]
 pub enum DataType {
     Reserved,
     Data,
@@ -27,7 +27,7 @@ pub enum DataType {
     VoiceAndData,
 }
 
-#[derive(Drop)]
+#[derive(Clone, Copy)]
 pub enum EncryptionType {
     None,
     Scrambler,
@@ -36,13 +36,13 @@ pub enum EncryptionType {
 }
 
 // A header.
-#[derive(Drop)]
+#[derive(Clone, Copy)]
 pub struct LsfFrame {
     pub bytes: [u8; 30],
 }
 
 // What making or changing a header answers. The header is 30 zeros on a refusal.
-#[derive(Drop)]
+#[derive(Clone, Copy)]
 pub struct Made {
     pub answer: Verdict,
     pub header: LsfFrame,
@@ -411,7 +411,7 @@ fn new_header(
 }
 
 // A stream frame.
-#[derive(Drop)]
+#[derive(Clone, Copy)]
 pub struct StreamFrame {
     // Which LICH part is in this frame, from 0 to 5.
     pub lich_idx: u8,
@@ -424,7 +424,7 @@ pub struct StreamFrame {
 }
 
 // What a packet frame counts.
-#[derive(Drop)]
+#[derive(Clone, Copy)]
 pub enum PacketFrameCounter {
     // Any frame but the last: which one it is, from 0 to 31. All 25 bytes are filled.
     Frame { index: usize },
@@ -433,34 +433,34 @@ pub enum PacketFrameCounter {
 }
 
 // A packet frame.
-#[derive(Drop)]
+#[derive(Clone, Copy)]
 pub struct PacketFrame {
     pub payload: [u8; 25],
     pub counter: PacketFrameCounter,
 }
 
 // LICH parts gathered: part c is bytes 5c to 5c + 4, and flag c says whether it was set.
-#[derive(Drop)]
+#[derive(Clone, Copy)]
 pub struct LichCollection {
     pub bytes: [u8; 30],
     pub set: [bool; 6],
 }
 
 // What setting a part answers. On a refusal the collection is as it was.
-#[derive(Drop)]
+#[derive(Clone, Copy)]
 pub struct Collected {
     pub answer: Verdict,
     pub collection: LichCollection,
 }
 
-#[derive(Drop)]
+#[derive(Clone, Copy)]
 pub enum Assembly {
     Header,
     NotYet,
 }
 
 // The bytes are 30 zeros when it is not yet a header.
-#[derive(Drop)]
+#[derive(Clone, Copy)]
 pub struct Assembled {
     pub answer: Assembly,
     pub bytes: [u8; 30],

@@ -12,7 +12,7 @@ use protocol::{LsfFrame, Mode, PacketFrameCounter, StreamFrame};
 use refusal::{Refusal, Verdict};
 
 // What is open.
-#[derive(Drop)]
+#[derive(Clone, Copy)]
 pub enum Phase {
     Idle,
     // A packet, expecting this frame.
@@ -22,21 +22,21 @@ pub enum Phase {
 }
 
 // A receiver's state. Part c is bytes 5c to 5c + 4 of `parts`.
-#[derive(Drop)]
+#[derive(Clone, Copy)]
 pub struct Receiver {
     pub phase: Phase,
     pub parts: [u8; 30],
 }
 
 // What a stream slot brings beside its fields.
-#[derive(Drop)]
+#[derive(Clone, Copy)]
 pub enum Late {
     Nothing,
     Header,
     Spoiled,
 }
 
-#[derive(Drop)]
+#[derive(Clone, Copy)]
 pub enum Answer {
     // A header: its bytes stand beside the answer.
     Header,
@@ -51,7 +51,7 @@ pub enum Answer {
 }
 
 // The answer, the header and the stream frame that it carries or zeros, and the next state.
-#[derive(Drop)]
+#[derive(Clone, Copy)]
 pub struct Received {
     pub answer: Answer,
     pub header: [u8; 30],

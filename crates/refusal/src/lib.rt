@@ -5,7 +5,7 @@ ghost use Rattle.std.specs.Prelude.{◌≡◌};
 ghost use Rattle.refusal.specs.Number.{number_of, said_of};
 
 // One name for each number, in the order of the numbers 1 to 15. Nothing gives 13 to 15 yet.
-#[derive(Drop)]
+#[derive(Clone, Copy)]
 pub enum Refusal {
     // 1: a buffer isn't as long as called for.
     WrongLength,
@@ -40,7 +40,7 @@ pub enum Refusal {
 }
 
 // The answer of what answers nothing but "done" or a refusal.
-#[derive(Drop)]
+#[derive(Clone, Copy)]
 pub enum Verdict {
     Done,
     Refused(Refusal),

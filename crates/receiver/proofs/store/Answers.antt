@@ -1,0 +1,18 @@
+-- `receiver::store` meets its contract: after i turns i elements are copied. Assumes nothing.
+use mathlib.Core.Path.{◌≡◌, refl}
+use Prim.Native.Nat.{◌-◌, ◌≤◌}
+use native.Mathlib.Omega.{arith}
+use lib.ListN.{length, length-set}
+use lib.Seq.{paste, paste-zero}
+use Rattle.laws.proofs.Pasted.{paste_more, paste_all}
+use Rattle.receiver.proofs.store.Goals as goal
+
+pub loop-i-preserved : goal.loop-i-preserved
+loop-i-preserved c =
+    let l = c.loop-i in
+    let a = c.args in (
+      omega arith,
+      refl,
+      simp length-set l.invariant.2,
+      paste_more a.memory.now l.memory a.b.now a.at l.i (omega arith) (omega arith) l.invariant.3,
+    )

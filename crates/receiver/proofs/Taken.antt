@@ -90,13 +90,12 @@ module _ (r : PacketRead) where
   packet_counted c e q = rw (e, q)
 
 -- no packet is open
-pub not_open : (ph : Phase) (parts m : List ℕ) (c : PacketFrameCounter) (b : List ℕ) → OneOf (0 ∷ 2 ∷ []) (tag_of phase.the_type ph)
+pub not_open : (ph : Phase) (parts m : List ℕ) (c : PacketFrameCounter) (b : List ℕ) → ((x : ℕ) → ph ≡ Packet x → ⊥)
     → (received_from idle (refused OutOfTurn) ≡ taken (meaning ph parts) m (counted c b)) × (m ≡ kept (meaning ph parts) m (counted c b))
 unfolding next answer kept
 not_open Idle parts m (Frame k) b t = (refl, refl)
 not_open Idle parts m (FinalFrame len) b t = (refl, refl)
-not_open (Packet n) parts m c b (inl e) = absurd (omega arith)
-not_open (Packet n) parts m c b (inr e) = absurd (omega arith)
+not_open (Packet n) parts m c b t = absurd (t n refl)
 not_open (Gathering j) parts m (Frame k) b t = (refl, refl)
 not_open (Gathering j) parts m (FinalFrame len) b t = (refl, refl)
 

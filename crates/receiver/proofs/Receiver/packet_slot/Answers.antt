@@ -23,7 +23,7 @@ returns-in_default-phase c =
     let done = c in
     let read = done in
     let a = read.args in
-    let no = not_open a.self.phase a.self.parts a.memory.now read.read_packet-read.result.frame.counter read.read_packet-read.result.frame.payload c.in_default-phase.keys2 in
+    let no = not_open a.self.phase a.self.parts a.memory.now read.read_packet-read.result.frame.counter read.read_packet-read.result.frame.payload c.in_default-phase.not-Packet in
     takes_as (state_of a.self) _ a.memory.now _ _ _ _ refl
     (sym (packet_counted read.read_packet-read.result _ done.in_default.is refl) ∙ ap packet_seen read.read_packet-read.ensures)
     (c.closed-in_default-phase.ensures ∙ no.0, no.1)

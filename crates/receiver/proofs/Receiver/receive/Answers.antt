@@ -19,7 +19,7 @@ pub returns-then-not-is_within : goal.returns-then-not-is_within
 returns-then-not-is_within c =
     let w = c in
     let a = w.args in
-    no_state a.self a.slot.now a.memory.now w.if-slot-ne48.false w.if-memory-ne825.false _ (sym w.is_within.ensures ∙ not-true _ c.if-not-is_within.true) c.unchanged-then-not-is_within.ensures
+    no_state a.self a.slot.now a.memory.now w.if-slot-ne48.false w.if-memory-ne825.false _ (sym w.is_within.ensures ∙ c.if-not-is_within.true) c.unchanged-then-not-is_within.ensures
 
 pub returns-then-sync-eq22007 : goal.returns-then-sync-eq22007
 returns-then-sync-eq22007 c =
@@ -28,7 +28,7 @@ returns-then-sync-eq22007 c =
     let w = one in
     let t = w in
     let a = t.args in
-    header_heard a.self a.slot.now a.memory.now w.if-slot-ne48.false w.if-memory-ne825.false (sym w.is_within.ensures ∙ not-false _ one.if-not-is_within.false)
+    header_heard a.self a.slot.now a.memory.now w.if-slot-ne48.false w.if-memory-ne825.false (sym w.is_within.ensures ∙ one.if-not-is_within.false)
     _ one.wide.result body.wide-2.result _ one.wide.ensures.0 body.wide-2.ensures.0 refl (behind_is a.slot.now)
     _ c.if-sync-eq22007.true c.header_slot.ensures
 
@@ -39,7 +39,7 @@ returns-then-sync c =
     let w = one in
     let t = w in
     let a = t.args in
-    stream_heard a.self a.slot.now a.memory.now w.if-slot-ne48.false w.if-memory-ne825.false (sym w.is_within.ensures ∙ not-false _ one.if-not-is_within.false)
+    stream_heard a.self a.slot.now a.memory.now w.if-slot-ne48.false w.if-memory-ne825.false (sym w.is_within.ensures ∙ one.if-not-is_within.false)
     _ one.wide.result body.wide-2.result _ one.wide.ensures.0 body.wide-2.ensures.0 refl (behind_is a.slot.now)
     c.if-sync-eq22007.false _ c.if-sync.true c.stream_slot.ensures
 
@@ -50,7 +50,7 @@ returns-then-sync-eq30207 c =
     let w = one in
     let t = w in
     let a = t.args in
-    packet_heard a.self a.slot.now a.memory.now w.if-slot-ne48.false w.if-memory-ne825.false (sym w.is_within.ensures ∙ not-false _ one.if-not-is_within.false)
+    packet_heard a.self a.slot.now a.memory.now w.if-slot-ne48.false w.if-memory-ne825.false (sym w.is_within.ensures ∙ one.if-not-is_within.false)
     _ one.wide.result body.wide-2.result _ one.wide.ensures.0 body.wide-2.ensures.0 refl (behind_is a.slot.now)
     c.if-sync-eq22007.false c.if-sync.false _ _ c.if-sync-eq30207.true c.packet_slot.ensures
 
@@ -61,7 +61,7 @@ returns-then-sync-eq21853 c =
     let w = one in
     let t = w in
     let a = t.args in
-    end_heard a.self a.slot.now a.memory.now w.if-slot-ne48.false w.if-memory-ne825.false (sym w.is_within.ensures ∙ not-false _ one.if-not-is_within.false)
+    end_heard a.self a.slot.now a.memory.now w.if-slot-ne48.false w.if-memory-ne825.false (sym w.is_within.ensures ∙ one.if-not-is_within.false)
     _ one.wide.result body.wide-2.result _ one.wide.ensures.0 body.wide-2.ensures.0 refl (behind_is a.slot.now)
     c.if-sync-eq22007.false c.if-sync.false c.if-sync-eq30207.false _ c.if-sync-eq21853.true c.told.ensures
 
@@ -72,6 +72,6 @@ returns c =
     let w = one in
     let t = w in
     let a = t.args in
-    unknown_heard a.self a.slot.now a.memory.now w.if-slot-ne48.false w.if-memory-ne825.false (sym w.is_within.ensures ∙ not-false _ one.if-not-is_within.false)
+    unknown_heard a.self a.slot.now a.memory.now w.if-slot-ne48.false w.if-memory-ne825.false (sym w.is_within.ensures ∙ one.if-not-is_within.false)
     _ one.wide.result body.wide-2.result _ one.wide.ensures.0 body.wide-2.ensures.0 refl (behind_is a.slot.now)
     c.if-sync-eq22007.false c.if-sync.false c.if-sync-eq30207.false _ c.if-sync-eq21853.false c.closed.ensures

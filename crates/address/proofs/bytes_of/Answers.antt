@@ -1,6 +1,5 @@
 -- `address::bytes_of` meets its contract. Assumes nothing.
 use Rattle.address.proofs.Six.{bytes_six}
-use borrow.Author.Rules.{rules}
 use Rattle.address.proofs.bytes_of.Goals as goal
 
 pub returns : goal.returns

@@ -10,7 +10,6 @@ use Rattle.address.specs.declared.Heard.TheVariants.{Read}
 use Rattle.laws.specs.Value.{value_of}
 use Rattle.address.specs.Address.{address_of, decoded_of}
 use Rattle.address.proofs.EachKind.{read_short, read_six, invalid_at, callsign_at, reserved_at, broadcast_at}
-use borrow.Author.Rules.{rules}
 use Rattle.address.proofs.decode_address.Goals as goal
 
 read_as : (s : List ℕ) (v : ℕ) {r : Reading} → length s ≡ 6 → v ≡ value_of s → address_of v ≡ r → r ≡ decoded_of s

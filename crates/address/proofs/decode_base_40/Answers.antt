@@ -1,12 +1,11 @@
 -- `address::decode_base_40` meets its contract. The loop's invariant: the characters so far, followed by those of what is left of the number, are the
 -- callsign. Assumes nothing.
-use mathlib.Core.Path.{◌≡◌, refl, sym, ap, ◌∙◌}
+use mathlib.Core.Path.{◌≡◌, sym, ap, ◌∙◌}
 use mathlib.Core.List.{List, ◌++◌, append-nil}
 use Prim.Native.Nat.{ℕ, ◌+◌, ◌-◌, ◌/◌, ◌%◌, ◌≤◌, ◌<◌}
 use native.Mathlib.Omega.{arith}
 use lib.ListN.{length, get_or, take, set, length-set}
 use lib.Seq.{take_all}
-use borrow.Author.Rules.{rules}
 use Rattle.address.specs.Callsign.{alphabet, character, callsign_of}
 use Rattle.address.proofs.Number.{callsign_more}
 use Rattle.address.proofs.decode_base_40.Goals as goal

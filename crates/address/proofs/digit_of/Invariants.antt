@@ -1,13 +1,8 @@
 -- `address::digit_of` meets its contract. The loop's invariant: the byte's place is as far on as the search has come. Assumes nothing.
-use mathlib.Core.Path.{◌≡◌, sym, ap, ap₂}
-use mathlib.Core.List.{List}
-use Prim.Native.Nat.{ℕ, suc, ◌+◌, ◌-◌, ◌≤◌, ◌<◌}
-use native.Mathlib.Numerals.{add-one}
-use native.Mathlib.Omega.{arith}
-use lib.ListN.{length, get_or, drop}
-use borrow.Author.Rules.{rules}
-use Rattle.address.specs.Callsign.{alphabet, place_in, digit_of, upper}
-use Rattle.address.proofs.Alphabet.{place_le, place_here, place_further}
+use mathlib.Core.Path.{◌≡◌}
+use Prim.Native.Nat.{◌+◌, ◌-◌, ◌≤◌}
+use lib.ListN.{drop}
+use Rattle.address.specs.Callsign.{place_in}
 use Rattle.address.proofs.digit_of.Given as goal
 
 abbrev pub invariant-loop-pos : goal.invariant-loop-pos

@@ -10,7 +10,6 @@ use Rattle.address.specs.declared.Address.{Address}
 use Rattle.address.specs.declared.Address.TheVariants.{Invalid, Callsign, Reserved, Broadcast}
 use Rattle.address.specs.Address.{address_value, writable, written, unwritten, encoded_of}
 use Rattle.address.proofs.EachKind.{write_short, write_good, write_bad, callsign_none, callsign_some, reserved_low, reserved_high, reserved_good}
-use borrow.Author.Rules.{rules}
 use Rattle.address.proofs.encode_address.Goals as goal
 
 module _ (a b : Address) (s : List ℕ) (is : a ≡ b) (nine : length s ≡ 9) where

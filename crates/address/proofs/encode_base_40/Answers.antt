@@ -6,7 +6,6 @@ use mathlib.Core.List.{List, []}
 use Prim.Native.Nat.{ℕ, zero, suc, ◌+◌, ◌-◌, ◌*◌, ◌^◌, ◌≤◌, ◌<◌}
 use native.Mathlib.Omega.{arith}
 use lib.ListN.{length, get_or, drop, length-drop, drop_of_length-le}
-use borrow.Author.Rules.{rules}
 use Rattle.address.specs.Callsign.{digit_of, known, callsign_value}
 use Rattle.address.proofs.Number.{known_more, unknown_at, number_lt, drop_before}
 use Rattle.address.proofs.encode_base_40.Goals as goal

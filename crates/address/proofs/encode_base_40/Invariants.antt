@@ -1,14 +1,10 @@
 -- `address::encode_base_40` meets its contract. The loop's invariant: the characters from `pos` on are known, and `value` is their number.
 -- Assumes nothing.
-use mathlib.Core.Path.{◌≡◌, sym, ap, ◌∙◌}
-use mathlib.Core.Bool.{true, cond}
-use mathlib.Core.List.{List, []}
-use Prim.Native.Nat.{ℕ, zero, suc, ◌+◌, ◌-◌, ◌*◌, ◌^◌, ◌≤◌, ◌<◌}
-use native.Mathlib.Omega.{arith}
-use lib.ListN.{length, get_or, drop, length-drop, drop_of_length-le}
-use borrow.Author.Rules.{rules}
-use Rattle.address.specs.Callsign.{digit_of, known, callsign_value}
-use Rattle.address.proofs.Number.{known_more, unknown_at, number_lt, drop_before}
+use mathlib.Core.Path.{◌≡◌}
+use mathlib.Core.Bool.{true}
+use Prim.Native.Nat.{◌≤◌}
+use lib.ListN.{drop}
+use Rattle.address.specs.Callsign.{known, callsign_value}
 use Rattle.address.proofs.encode_base_40.Given as goal
 
 abbrev pub invariant-loop-pos : goal.invariant-loop-pos

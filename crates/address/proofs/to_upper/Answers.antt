@@ -1,7 +1,6 @@
 -- `address::to_upper` meets its contract. Assumes nothing.
 use mathlib.Core.Path.{sym}
 use native.Mathlib.Omega.{arith}
-use borrow.Author.Rules.{rules}
 use Rattle.address.proofs.Alphabet.{upper_low, upper_high, upper_letter}
 use Rattle.address.proofs.to_upper.Goals as goal
 

@@ -2,7 +2,6 @@
 use mathlib.Core.Path.{sym}
 use native.Mathlib.Omega.{arith}
 use Rattle.address.proofs.Six.{value_six}
-use borrow.Author.Rules.{rules}
 use Rattle.address.proofs.value_of.Goals as goal
 
 pub returns : goal.returns

@@ -4,7 +4,6 @@ use Prim.Native.Nat.{◌-◌, ◌/◌, ◌%◌, ◌^◌}
 use lib.ListN.{get_or}
 use Rattle.bits.specs.Bits.{bit}
 use Rattle.bits.proofs.Back.{bit_at, bit-odd}
-use borrow.Author.Rules.{rules}
 use Rattle.bits.proofs.peek.Goals as goal
 
 pub returns : goal.returns

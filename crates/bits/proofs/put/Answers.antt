@@ -6,7 +6,6 @@ use lib.ListN.{get_or}
 use Rattle.laws.specs.Value.{Bytes}
 use Rattle.bits.specs.Places.{flag}
 use Rattle.bits.proofs.Setting.{put_in, put_byte, and_clears, or_sets, flag_one}
-use borrow.Author.Rules.{rules}
 use Rattle.bits.proofs.put.Goals as goal
 
 pub returns-then-value-eq0 : goal.returns-then-value-eq0

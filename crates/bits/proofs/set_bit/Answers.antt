@@ -1,11 +1,10 @@
 -- `bits::set_bit` meets its contract. Assumes nothing.
 use mathlib.Core.Path.{sym}
-use Prim.Native.Nat.{◌*◌, ◌<◌, ◌≤◌}
+use Prim.Native.Nat.{◌*◌, ◌≤◌}
 use native.Mathlib.Omega.{arith}
 use lib.ListN.{length}
-use borrow.Author.Tests.{lt-ltb, le-ltb}
+use borrow.Author.Tests.{le-ltb}
 use Rattle.bits.proofs.Setting.{unchanged}
-use borrow.Author.Rules.{rules}
 use Rattle.bits.proofs.set_bit.Goals as goal
 
 pub returns : goal.returns

@@ -1,5 +1,4 @@
 -- `crc::m17_crc` meets its contract. Assumes nothing.
-use borrow.Author.Rules.{rules}
 use Rattle.crc.specs.Crc.{crc}
 use Rattle.crc.proofs.m17_crc.Goals as goal
 

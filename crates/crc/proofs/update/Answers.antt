@@ -1,17 +1,15 @@
 -- `crc::update` meets its contract: after i bytes the register is the CRC of the first i. Assumes nothing.
 use mathlib.Core.Path.{◌≡◌, refl, sym, ap, ◌∙◌, subst}
 use mathlib.Core.List.{List}
-use Prim.Native.Nat.{ℕ, ◌+◌, ◌-◌, ◌*◌, ◌/◌, ◌%◌, ◌<◌, ◌≤◌}
+use Prim.Native.Nat.{ℕ, ◌+◌, ◌*◌, ◌/◌, ◌%◌, ◌<◌}
 use native.Mathlib.Omega.{arith}
 use lib.Bits.{bit_xor, xor_lt}
-use lib.ListN.{length, get_or, take}
-use lib.Seq.{take_all}
+use lib.ListN.{get_or, take}
 use Rattle.laws.specs.Value.{Bytes}
 use Rattle.laws.proofs.Bytes.{bytes_take}
 use Rattle.laws.proofs.Values.{tabled_at}
 use Rattle.crc.specs.Crc.{byte_remainder, crc_from}
 use Rattle.crc.proofs.Parts.{crc_nothing, crc_from_lt, crc_more}
-use borrow.Author.Rules.{rules}
 use Rattle.crc.proofs.update.Goals as goal
 
 pub loop-i-init : goal.loop-i-init

@@ -1,6 +1,5 @@
 -- `golay::decode` meets its contract. Assumes nothing.
 use Prim.Native.Nat.{◌^◌}
-use borrow.Author.Rules.{rules}
 use borrow.Author.Tests.{lt-ltb, le-ltb}
 use Rattle.golay.specs.Golay.{decoded_of}
 use Rattle.golay.proofs.decode.Goals as goal

@@ -1,6 +1,5 @@
 -- `golay::encode` meets its contract. Assumes nothing.
 use mathlib.Core.Path.{ap, ◌∙◌}
-use borrow.Author.Rules.{rules}
 use borrow.Author.Tests.{lt-ltb, le-ltb}
 use Rattle.golay.specs.declared.Codeword.TheVariants.{Word}
 use Rattle.golay.specs.Golay.{golay, encoded_of}

@@ -3,7 +3,6 @@ use mathlib.Core.Path.{ap}
 use Prim.Native.Nat.{ℕ}
 use lib.Dec.{eqb}
 use Rattle.golay.specs.Golay.{is_word}
-use borrow.Author.Rules.{rules}
 use Rattle.golay.proofs.is_word.Goals as goal
 
 pub returns : goal.returns

@@ -1,14 +1,13 @@
 -- `golay::search` meets its contract: it leaves at a codeword within three flips, or has passed them all. Assumes nothing.
 use mathlib.Core.Bool.{true}
-use mathlib.Core.Path.{◌≡◌, refl, sym, ap, ◌∙◌}
-use Prim.Native.Nat.{ℕ, ◌-◌, ◌^◌, ◌<◌, ◌≤◌}
+use mathlib.Core.Path.{◌≡◌, sym, ap, ◌∙◌}
+use Prim.Native.Nat.{ℕ, ◌^◌, ◌<◌, ◌≤◌}
 use native.Mathlib.Omega.{arith}
-use mathlib.Core.Logic.{inl, inr, ⊎_elim}
+use mathlib.Core.Logic.{inl, inr}
 use Rattle.golay.specs.Golay.{apart, is_word}
 use lib.Dec.{lit≤}
 use native.Mathlib.Nat.{le_trans, le_of_eq}
-use borrow.Author.Tests.{not-true, not-false}
-use Rattle.golay.proofs.Clear.{flip, Clear1, Clear2, Clear3, more1, more2, more3}
+use Rattle.golay.proofs.Clear.{flip}
 use Rattle.golay.proofs.Near.{Hit, Met, met_hit, met_none, flip-lt, flip-apart, apart_self, found_read, none_read}
 use Rattle.golay.proofs.search.Goals as goal
 use Rattle.golay.proofs.search.Goals.{then-not-found+else-search-test, then-not-found+then-search-test+then-is_word, then-not-found+then-search-test+else-is_word+then-loop-j-test+then-is_word-2, then-not-found+then-search-test+else-is_word+then-loop-j-test+else-is_word-2+then-loop-k-test+then-is_word-3, else-not-found}
@@ -62,16 +61,16 @@ pub overflow_cast-result : goal.overflow_cast-result
 overflow_cast-result c =
     let met : Met c.args.word c.if-not-found.hit c.if-not-found.found =
     elim c.if-not-found.branch [
-      then-not-found+else-search-test w ↦
-        inr (w.found-is ∙ w.search.invariant.2 ∙ w.if-not-found.true, sym c.is_word-found.ensures ∙ w.if-not-found.true, λ i h. w.search.invariant.3 i (omega arith))
-    | then-not-found+then-search-test+then-is_word w ↦
-        inl (w.found-is, one_hit c.args.word w.search.i _ c.requires.2 w.search-test.true w.hit-is (sym w.is_word.ensures ∙ w.if-is_word.true))
-    | then-not-found+then-search-test+else-is_word+then-loop-j-test+then-is_word-2 w ↦
-        inl (w.found-is, two_hit c.args.word w.search.i w.loop-j.j _ c.requires.2 w.search-test.true w.loop-j-test.true w.hit-is (sym w.is_word-in-loop-j.ensures ∙ w.if-is_word-2.true))
-    | then-not-found+then-search-test+else-is_word+then-loop-j-test+else-is_word-2+then-loop-k-test+then-is_word-3 w ↦
-        inl (w.found-is, three_hit c.args.word w.search.i w.loop-j.j w.loop-k.k _ c.requires.2 w.search-test.true w.loop-j-test.true w.loop-k-test.true w.hit-is (sym w.is_word-in-loop-k.ensures ∙ w.if-is_word-3.true))
-    | else-not-found w ↦
-        inl (w.found-is ∙ w.if-not-found.false, no_flip c.args.word _ c.requires.2 w.hit-is (sym c.is_word-found.ensures ∙ w.if-not-found.false))
+      | then-not-found+else-search-test w ↦
+          inr (w.found-is ∙ w.search.invariant.2 ∙ w.if-not-found.true, sym c.is_word-found.ensures ∙ w.if-not-found.true, λ i h. w.search.invariant.3 i (omega arith))
+      | then-not-found+then-search-test+then-is_word w ↦
+          inl (w.found-is, one_hit c.args.word w.search.i _ c.requires.2 w.search-test.true w.hit-is (sym w.is_word.ensures ∙ w.if-is_word.true))
+      | then-not-found+then-search-test+else-is_word+then-loop-j-test+then-is_word-2 w ↦
+          inl (w.found-is, two_hit c.args.word w.search.i w.loop-j.j _ c.requires.2 w.search-test.true w.loop-j-test.true w.hit-is (sym w.is_word-in-loop-j.ensures ∙ w.if-is_word-2.true))
+      | then-not-found+then-search-test+else-is_word+then-loop-j-test+else-is_word-2+then-loop-k-test+then-is_word-3 w ↦
+          inl (w.found-is, three_hit c.args.word w.search.i w.loop-j.j w.loop-k.k _ c.requires.2 w.search-test.true w.loop-j-test.true w.loop-k-test.true w.hit-is (sym w.is_word-in-loop-k.ensures ∙ w.if-is_word-3.true))
+      | else-not-found w ↦
+          inl (w.found-is ∙ w.if-not-found.false, no_flip c.args.word _ c.requires.2 w.hit-is (sym c.is_word-found.ensures ∙ w.if-not-found.false))
     ] in
     let h = met_hit c.args.word c.if-not-found.hit c.if-not-found.found met c.if-found.true in
     let small : c.if-not-found.hit < 2 ^ 24 = h.small in
@@ -81,16 +80,16 @@ pub returns-then-found : goal.returns-then-found
 returns-then-found c =
     let met : Met c.args.word c.if-not-found.hit c.if-not-found.found =
     elim c.if-not-found.branch [
-      then-not-found+else-search-test w ↦
-        inr (w.found-is ∙ w.search.invariant.2 ∙ w.if-not-found.true, sym c.is_word-found.ensures ∙ w.if-not-found.true, λ i h. w.search.invariant.3 i (omega arith))
-    | then-not-found+then-search-test+then-is_word w ↦
-        inl (w.found-is, one_hit c.args.word w.search.i _ c.requires.2 w.search-test.true w.hit-is (sym w.is_word.ensures ∙ w.if-is_word.true))
-    | then-not-found+then-search-test+else-is_word+then-loop-j-test+then-is_word-2 w ↦
-        inl (w.found-is, two_hit c.args.word w.search.i w.loop-j.j _ c.requires.2 w.search-test.true w.loop-j-test.true w.hit-is (sym w.is_word-in-loop-j.ensures ∙ w.if-is_word-2.true))
-    | then-not-found+then-search-test+else-is_word+then-loop-j-test+else-is_word-2+then-loop-k-test+then-is_word-3 w ↦
-        inl (w.found-is, three_hit c.args.word w.search.i w.loop-j.j w.loop-k.k _ c.requires.2 w.search-test.true w.loop-j-test.true w.loop-k-test.true w.hit-is (sym w.is_word-in-loop-k.ensures ∙ w.if-is_word-3.true))
-    | else-not-found w ↦
-        inl (w.found-is ∙ w.if-not-found.false, no_flip c.args.word _ c.requires.2 w.hit-is (sym c.is_word-found.ensures ∙ w.if-not-found.false))
+      | then-not-found+else-search-test w ↦
+          inr (w.found-is ∙ w.search.invariant.2 ∙ w.if-not-found.true, sym c.is_word-found.ensures ∙ w.if-not-found.true, λ i h. w.search.invariant.3 i (omega arith))
+      | then-not-found+then-search-test+then-is_word w ↦
+          inl (w.found-is, one_hit c.args.word w.search.i _ c.requires.2 w.search-test.true w.hit-is (sym w.is_word.ensures ∙ w.if-is_word.true))
+      | then-not-found+then-search-test+else-is_word+then-loop-j-test+then-is_word-2 w ↦
+          inl (w.found-is, two_hit c.args.word w.search.i w.loop-j.j _ c.requires.2 w.search-test.true w.loop-j-test.true w.hit-is (sym w.is_word-in-loop-j.ensures ∙ w.if-is_word-2.true))
+      | then-not-found+then-search-test+else-is_word+then-loop-j-test+else-is_word-2+then-loop-k-test+then-is_word-3 w ↦
+          inl (w.found-is, three_hit c.args.word w.search.i w.loop-j.j w.loop-k.k _ c.requires.2 w.search-test.true w.loop-j-test.true w.loop-k-test.true w.hit-is (sym w.is_word-in-loop-k.ensures ∙ w.if-is_word-3.true))
+      | else-not-found w ↦
+          inl (w.found-is ∙ w.if-not-found.false, no_flip c.args.word _ c.requires.2 w.hit-is (sym c.is_word-found.ensures ∙ w.if-not-found.false))
     ] in
     let h = met_hit c.args.word c.if-not-found.hit c.if-not-found.found met c.if-found.true in
     found_read c.args.word c.if-not-found.hit h.small h.word h.close
@@ -99,16 +98,16 @@ pub returns-else-found : goal.returns-else-found
 returns-else-found c =
     let met : Met c.args.word c.if-not-found.hit c.if-not-found.found =
     elim c.if-not-found.branch [
-      then-not-found+else-search-test w ↦
-        inr (w.found-is ∙ w.search.invariant.2 ∙ w.if-not-found.true, sym c.is_word-found.ensures ∙ w.if-not-found.true, λ i h. w.search.invariant.3 i (omega arith))
-    | then-not-found+then-search-test+then-is_word w ↦
-        inl (w.found-is, one_hit c.args.word w.search.i _ c.requires.2 w.search-test.true w.hit-is (sym w.is_word.ensures ∙ w.if-is_word.true))
-    | then-not-found+then-search-test+else-is_word+then-loop-j-test+then-is_word-2 w ↦
-        inl (w.found-is, two_hit c.args.word w.search.i w.loop-j.j _ c.requires.2 w.search-test.true w.loop-j-test.true w.hit-is (sym w.is_word-in-loop-j.ensures ∙ w.if-is_word-2.true))
-    | then-not-found+then-search-test+else-is_word+then-loop-j-test+else-is_word-2+then-loop-k-test+then-is_word-3 w ↦
-        inl (w.found-is, three_hit c.args.word w.search.i w.loop-j.j w.loop-k.k _ c.requires.2 w.search-test.true w.loop-j-test.true w.loop-k-test.true w.hit-is (sym w.is_word-in-loop-k.ensures ∙ w.if-is_word-3.true))
-    | else-not-found w ↦
-        inl (w.found-is ∙ w.if-not-found.false, no_flip c.args.word _ c.requires.2 w.hit-is (sym c.is_word-found.ensures ∙ w.if-not-found.false))
+      | then-not-found+else-search-test w ↦
+          inr (w.found-is ∙ w.search.invariant.2 ∙ w.if-not-found.true, sym c.is_word-found.ensures ∙ w.if-not-found.true, λ i h. w.search.invariant.3 i (omega arith))
+      | then-not-found+then-search-test+then-is_word w ↦
+          inl (w.found-is, one_hit c.args.word w.search.i _ c.requires.2 w.search-test.true w.hit-is (sym w.is_word.ensures ∙ w.if-is_word.true))
+      | then-not-found+then-search-test+else-is_word+then-loop-j-test+then-is_word-2 w ↦
+          inl (w.found-is, two_hit c.args.word w.search.i w.loop-j.j _ c.requires.2 w.search-test.true w.loop-j-test.true w.hit-is (sym w.is_word-in-loop-j.ensures ∙ w.if-is_word-2.true))
+      | then-not-found+then-search-test+else-is_word+then-loop-j-test+else-is_word-2+then-loop-k-test+then-is_word-3 w ↦
+          inl (w.found-is, three_hit c.args.word w.search.i w.loop-j.j w.loop-k.k _ c.requires.2 w.search-test.true w.loop-j-test.true w.loop-k-test.true w.hit-is (sym w.is_word-in-loop-k.ensures ∙ w.if-is_word-3.true))
+      | else-not-found w ↦
+          inl (w.found-is ∙ w.if-not-found.false, no_flip c.args.word _ c.requires.2 w.hit-is (sym c.is_word-found.ensures ∙ w.if-not-found.false))
     ] in
     let n = met_none c.args.word c.if-not-found.hit c.if-not-found.found met c.if-found.false in
     none_read c.args.word c.requires.2 n.0 n.1

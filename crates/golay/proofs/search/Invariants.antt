@@ -1,14 +1,7 @@
 -- `golay::search` meets its contract: it leaves at a codeword within three flips, or has passed them all. Assumes nothing.
-use mathlib.Core.Path.{◌≡◌, refl, sym, ap, ◌∙◌}
-use Prim.Native.Nat.{ℕ, ◌-◌, ◌^◌, ◌<◌, ◌≤◌}
-use native.Mathlib.Omega.{arith}
-use mathlib.Core.Logic.{inl, inr, ⊎_elim}
-use Rattle.golay.specs.Golay.{apart, is_word}
-use lib.Dec.{lit≤}
-use native.Mathlib.Nat.{le_trans, le_of_eq}
-use borrow.Author.Tests.{not-true, not-false}
-use Rattle.golay.proofs.Clear.{flip, Clear1, Clear2, Clear3, more1, more2, more3}
-use Rattle.golay.proofs.Near.{Hit, Met, met_hit, met_none, flip-lt, flip-apart, apart_self, found_read, none_read}
+use mathlib.Core.Path.{◌≡◌}
+use Prim.Native.Nat.{◌-◌, ◌<◌, ◌≤◌}
+use Rattle.golay.proofs.Clear.{Clear1, Clear2, Clear3}
 use Rattle.golay.proofs.search.Given as goal
 
 abbrev pub invariant-loop-k : goal.invariant-loop-k

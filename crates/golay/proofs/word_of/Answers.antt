@@ -7,11 +7,9 @@ use native.Mathlib.Omega.{arith}
 use lib.Dec.{lit<}
 use lib.Bits.{bit_xor, xor_shifted}
 use lib.ListN.{get_or}
-use Rattle.laws.specs.Tabled.{tabled}
 use Rattle.laws.proofs.Values.{tabled_at}
 use Rattle.golay.specs.Golay.{golay}
 use Rattle.golay.proofs.Linear.{golay-xor}
-use borrow.Author.Rules.{rules}
 use Rattle.golay.proofs.word_of.Goals as goal
 
 in_parts : (v : ℕ) → v < 4096 → bit_xor (golay (v / 64 * 64)) (golay (v % 64)) ≡ golay v

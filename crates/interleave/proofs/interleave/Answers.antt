@@ -1,5 +1,5 @@
 -- `interleave::interleave` meets its contract. Assumes nothing.
-use mathlib.Core.Path.{sym, ap, ◌∙◌}
+use mathlib.Core.Path.{ap, ◌∙◌}
 use mathlib.Core.List.{List}
 use Prim.Native.Nat.{ℕ}
 use lib.ListN.{length}
@@ -8,8 +8,6 @@ use Rattle.refusal.specs.declared.Verdict.TheVariants.{Done}
 use Rattle.interleave.specs.declared.Interleaved.{Interleaved}
 use Rattle.bits.specs.Bits.{bytes_of}
 use Rattle.interleave.specs.Interleave.{interleaved_of}
-use Rattle.interleave.proofs.Twice.{length-interleaved}
-use borrow.Author.Rules.{rules}
 use Rattle.interleave.proofs.interleave.Goals as goal
 
 pub returns-then-payload-ne46 : goal.returns-then-payload-ne46

@@ -1,14 +1,8 @@
 -- `interleave::packed` meets its contract. Assumes nothing.
 use native.Mathlib.Omega.{arith}
-use mathlib.Core.Path.{refl, sym, ◌∙◌}
-use mathlib.Core.Bool.{Bool}
-use mathlib.Core.List.{List}
-use Prim.Native.Nat.{ℕ, ◌*◌, ◌-◌, ◌≤◌}
-use lib.ListN.{drop}
-use Rattle.laws.proofs.Values.{Filled, filled_none, filled_more, filled_all}
-use Rattle.bits.specs.Bits.{byte_of}
+use mathlib.Core.Path.{sym, ◌∙◌}
+use Rattle.laws.proofs.Values.{filled_more, filled_all}
 use Rattle.bits.proofs.Back.{bytes_tabled}
-use borrow.Author.Rules.{rules}
 use Rattle.interleave.proofs.packed.Invariants.{byte}
 use Rattle.interleave.proofs.packed.Goals as goal
 

@@ -1,11 +1,10 @@
 -- `random::random_xor` meets its contract: after i turns the first i bytes are xored. Assumes nothing.
 use mathlib.Core.Path.{◌≡◌, refl, sym, ap, ◌∙◌}
 use mathlib.Core.List.{List}
-use Prim.Native.Nat.{ℕ, ◌+◌, ◌-◌, ◌%◌, ◌<◌, ◌≤◌}
+use Prim.Native.Nat.{ℕ, ◌+◌, ◌%◌, ◌<◌}
 use native.Mathlib.Omega.{arith}
 use lib.Bits.{bit_xor}
 use lib.ListN.{length, get_or, set, length-set}
-use borrow.Author.Rules.{rules}
 use Rattle.laws.proofs.InPlace.{done, done_at, done_more, done_all}
 use Rattle.random.specs.Random.{random_seq, xored}
 use Rattle.random.proofs.Twice.{length-xored, xored_at}

@@ -1,14 +1,10 @@
 -- What the automaton does at what each kind of body says, in the code's values. Assumes nothing.
 use mathlib.Core.Path.{◌≡◌, refl, sym, ap, ap₂, ◌∙◌}
-use mathlib.Core.Logic.{inl, inr}
 use mathlib.Core.Bool.{Bool, true, false, cond}
-use mathlib.Core.List.{List, [], ◌∷◌}
+use mathlib.Core.List.{List, []}
 use Prim.Native.Nat.{ℕ, ◌≤◌}
-use native.Mathlib.Omega.{arith}
 use lib.Dec.{eqb}
 use borrow.Author.Tests.{eq-eqb, ne_eqb, leb-true}
-use denote.Enum.Declared.{tag_of}
-use types.Run.{OneOf}
 use Rattle.refusal.specs.declared.Refusal.{Refusal}
 use Rattle.refusal.specs.declared.Refusal.TheVariants.{BadHeader, OutOfTurn}
 use Rattle.refusal.specs.declared.Verdict.{Verdict}
@@ -30,7 +26,6 @@ use Rattle.receiver.specs.declared.Phase.TheVariants.{Idle, Packet, Gathering}
 use Rattle.receiver.specs.declared.Received.{Received}
 use Rattle.receiver.specs.See.{header_by, header_seen, seen_stream, stream_by, stream_seen, counted, packet_seen}
 use Rattle.receiver.specs.Receiver.{meaning, within, received_from, taken}
-use Rattle.receiver.specs.contracts.Phase as phase
 
 -- a slot that does not read closes what was open
 pub unread-taken : (st : State) (m : List ℕ) (why : Refusal) → received_from idle (refused why) ≡ taken st m (unread why)

@@ -1,13 +1,12 @@
 -- `decode::body_from` meets its contract: after i turns the first i bytes are read. Assumes nothing.
-use mathlib.Core.Path.{refl, sym, ◌∙◌}
-use Prim.Native.Nat.{◌*◌, ◌-◌}
+use mathlib.Core.Path.{sym, ◌∙◌}
+use Prim.Native.Nat.{◌*◌}
 use native.Mathlib.Omega.{arith}
 use lib.ListN.{drop}
-use Rattle.laws.proofs.Values.{Filled, filled_none, filled_more, filled_all}
+use Rattle.laws.proofs.Values.{filled_all}
 use Rattle.bits.specs.Bits.{byte_of}
 use Rattle.bits.proofs.Back.{bytes_tabled}
 use Rattle.decode.specs.Symbols.{pairs_of, body_from}
-use borrow.Author.Rules.{rules}
 use Rattle.decode.proofs.body_from.Goals as goal
 
 pub returns : goal.returns

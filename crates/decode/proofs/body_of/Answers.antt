@@ -3,7 +3,6 @@ use mathlib.Core.Path.{ap}
 use lib.ListN.{length}
 use borrow.Author.Tests.{eq-eqb, ne_eqb}
 use Rattle.decode.specs.Symbols.{body_read, body_read_of}
-use borrow.Author.Rules.{rules}
 use Rattle.decode.proofs.body_of.Goals as goal
 
 pub returns-then-symbols-ne192 : goal.returns-then-symbols-ne192

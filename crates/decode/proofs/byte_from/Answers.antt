@@ -1,7 +1,6 @@
 -- `decode::byte_from` meets its contract. Assumes nothing.
 use native.Mathlib.Omega.{arith}
 use Rattle.decode.proofs.Pairs.{byte_of_four}
-use borrow.Author.Rules.{rules}
 use Rattle.decode.proofs.byte_from.Goals as goal
 
 pub returns : goal.returns

@@ -1,10 +1,8 @@
 -- `decode::copy` meets its contract: after i turns the first i bytes are copied. Assumes nothing.
-use mathlib.Core.Path.{◌≡◌, refl, ap, ◌∙◌}
-use mathlib.Core.List.{List}
-use Prim.Native.Nat.{ℕ, ◌-◌, ◌≤◌}
-use native.Mathlib.Omega.{arith}
-use lib.ListN.{length, get_or, set, length-set}
-use Rattle.laws.proofs.InPlace.{done, done_more, done_all}
+use mathlib.Core.Path.{◌≡◌}
+use Prim.Native.Nat.{◌-◌, ◌≤◌}
+use lib.ListN.{length}
+use Rattle.laws.proofs.InPlace.{done}
 use Rattle.decode.proofs.copy.Given as goal
 
 abbrev pub invariant-loop-i : goal.invariant-loop-i

@@ -5,7 +5,6 @@ use borrow.Author.Tests.{ne_eqb}
 use Rattle.decode.specs.Lich.{lich_read_of}
 use Rattle.decode.proofs.Words.{data_lt}
 use Rattle.decode.proofs.ByLength.{first_refused, second_refused, third_refused, fourth_refused, all_read}
-use borrow.Author.Rules.{rules}
 use Rattle.decode.proofs.decode_lich.Goals as goal
 
 pub returns-then-lich-ne12 : goal.returns-then-lich-ne12

@@ -4,7 +4,6 @@ use lib.ListN.{length}
 use borrow.Author.Tests.{eq-eqb, ne_eqb}
 use Rattle.decode.specs.Bodies.{unmasked}
 use Rattle.decode.specs.Symbols.{body_read, initial_of}
-use borrow.Author.Rules.{rules}
 use Rattle.decode.proofs.frame_initial_decode.Goals as goal
 
 pub returns-then-frame-ne192 : goal.returns-then-frame-ne192

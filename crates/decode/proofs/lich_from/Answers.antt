@@ -5,7 +5,6 @@ use Prim.Native.Nat.{ℕ, ◌+◌, ◌*◌, ◌/◌, ◌%◌, ◌^◌}
 use Rattle.decode.specs.declared.Counted.TheVariants.{Counter}
 use Rattle.decode.specs.declared.LichRead.{LichRead}
 use Rattle.decode.proofs.Words.{first_five}
-use borrow.Author.Rules.{rules}
 use Rattle.decode.proofs.lich_from.Goals as goal
 
 pub returns : goal.returns

@@ -4,7 +4,6 @@ use lib.ListN.{length}
 use borrow.Author.Tests.{eq-eqb, ne_eqb}
 use Rattle.decode.specs.Bodies.{stream_read_of}
 use Rattle.decode.specs.Symbols.{stream_parsed_of}
-use borrow.Author.Rules.{rules}
 use Rattle.decode.proofs.parse_stream.Goals as goal
 
 pub returns-then-frame-ne192 : goal.returns-then-frame-ne192

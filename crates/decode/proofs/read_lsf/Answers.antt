@@ -4,7 +4,6 @@ use lib.ListN.{length}
 use borrow.Author.Tests.{ne_eqb}
 use Rattle.decode.specs.Bodies.{lsf_read_of}
 use Rattle.decode.proofs.ByLength.{lsf_done, lsf_refused}
-use borrow.Author.Rules.{rules}
 use Rattle.decode.proofs.read_lsf.Goals as goal
 
 pub returns-then-body-ne46 : goal.returns-then-body-ne46

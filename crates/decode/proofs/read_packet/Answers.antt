@@ -4,7 +4,6 @@ use lib.ListN.{length}
 use borrow.Author.Tests.{ne_eqb}
 use Rattle.decode.specs.Bodies.{packet_read_of}
 use Rattle.decode.proofs.ByLength.{packet_done, packet_refused}
-use borrow.Author.Rules.{rules}
 use Rattle.decode.proofs.read_packet.Goals as goal
 
 pub returns-then-body-ne46 : goal.returns-then-body-ne46

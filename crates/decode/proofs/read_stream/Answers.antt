@@ -4,7 +4,6 @@ use lib.ListN.{length}
 use borrow.Author.Tests.{ne_eqb}
 use Rattle.decode.specs.Bodies.{stream_read_of}
 use Rattle.decode.proofs.ByLength.{stream_refused, stream_done, stream_unread}
-use borrow.Author.Rules.{rules}
 use Rattle.decode.proofs.read_stream.Goals as goal
 
 pub returns-then-body-ne46 : goal.returns-then-body-ne46

@@ -9,7 +9,6 @@ use Rattle.refusal.specs.declared.Verdict.TheVariants.{Done}
 use Rattle.decode.specs.declared.StreamRead.{StreamRead}
 use Rattle.decode.specs.Bodies.{stream_from}
 use Rattle.decode.proofs.Words.{value_two}
-use borrow.Author.Rules.{rules}
 use Rattle.decode.proofs.stream_from.Goals as goal
 
 fields : ℕ → List ℕ → ℕ → List ℕ → StreamRead

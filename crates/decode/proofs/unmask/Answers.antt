@@ -3,7 +3,6 @@ use mathlib.Core.Path.{ap, ◌∙◌}
 use native.Mathlib.Omega.{arith}
 use Rattle.random.specs.Random.{xored}
 use Rattle.decode.proofs.Masks.{unmasks}
-use borrow.Author.Rules.{rules}
 use Rattle.decode.proofs.unmask.Goals as goal
 
 pub returns : goal.returns

@@ -3,7 +3,6 @@ use mathlib.Core.Path.{sym}
 use Prim.Native.Nat.{◌*◌}
 use native.Mathlib.Omega.{arith}
 use Rattle.decode.proofs.Words.{value_three}
-use borrow.Author.Rules.{rules}
 use Rattle.decode.proofs.word_at.Goals as goal
 
 pub returns : goal.returns

@@ -1,10 +1,8 @@
 -- `encode::copy` meets its contract: after i turns i elements are copied. Assumes nothing.
-use mathlib.Core.Path.{◌≡◌, refl}
-use Prim.Native.Nat.{◌-◌, ◌≤◌}
+use mathlib.Core.Path.{refl}
 use native.Mathlib.Omega.{arith}
-use lib.ListN.{length, length-set}
-use lib.Seq.{paste, paste-zero}
-use Rattle.laws.proofs.Pasted.{paste_more, paste_all}
+use lib.ListN.{length-set}
+use Rattle.laws.proofs.Pasted.{paste_more}
 use Rattle.encode.proofs.copy.Goals as goal
 
 pub loop-i-preserved : goal.loop-i-preserved

@@ -6,7 +6,6 @@ use native.Mathlib.Omega.{arith}
 use Rattle.refusal.specs.declared.Verdict.TheVariants.{Done}
 use Rattle.encode.specs.declared.Lich.{Lich}
 use Rattle.encode.proofs.Answers.{lich_short, lich_high, lich_written}
-use borrow.Author.Rules.{rules}
 use Rattle.encode.proofs.encode_lich.Goals as goal
 
 pub returns-then-part-ne5 : goal.returns-then-part-ne5

@@ -2,7 +2,6 @@
 use mathlib.Core.Path.{ap, ◌∙◌}
 use Rattle.fec.specs.declared.Kind.TheVariants.{Stream}
 use Rattle.encode.specs.Symbols.{symbols_from, stream_symbols_of}
-use borrow.Author.Rules.{rules}
 use Rattle.encode.proofs.encode_stream.Goals as goal
 
 pub returns : goal.returns

@@ -2,7 +2,6 @@
 use mathlib.Core.Path.{sym}
 use native.Mathlib.Omega.{arith}
 use Rattle.encode.proofs.Words.{value_five}
-use borrow.Author.Rules.{rules}
 use Rattle.encode.proofs.lich_value.Goals as goal
 
 pub returns : goal.returns

@@ -1,7 +1,5 @@
 -- `encode::lich_words` meets its contract: each word is three bytes. Assumes nothing.
-use native.Mathlib.Omega.{arith}
 use Rattle.encode.proofs.Words.{four_words_lem}
-use borrow.Author.Rules.{rules}
 use Rattle.encode.proofs.lich_words.Goals as goal
 
 pub returns : goal.returns

@@ -1,7 +1,6 @@
 -- `encode::stream_fields` meets its contract: the marked number is two bytes. Assumes nothing.
 use native.Mathlib.Omega.{arith}
 use Rattle.encode.proofs.Fields.{fields_stream}
-use borrow.Author.Rules.{rules}
 use Rattle.encode.proofs.stream_fields.Goals as goal
 
 pub returns : goal.returns

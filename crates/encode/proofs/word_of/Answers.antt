@@ -3,7 +3,6 @@ use mathlib.Core.Path.{sym, ◌∙◌}
 use native.Mathlib.Omega.{arith}
 use Rattle.golay.proofs.Linear.{golay-lt}
 use Rattle.encode.proofs.Words.{word_is, word_none}
-use borrow.Author.Rules.{rules}
 use Rattle.encode.proofs.word_of.Goals as goal
 
 pub returns-in-Word : goal.returns-in-Word

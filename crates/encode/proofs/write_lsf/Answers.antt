@@ -4,7 +4,6 @@ use mathlib.Core.List.{List}
 use Prim.Native.Nat.{ℕ}
 use Rattle.encode.specs.Bodies.{masked, written}
 use Rattle.encode.proofs.Answers.{lsf_short, lsf_written}
-use borrow.Author.Rules.{rules}
 use Rattle.encode.proofs.write_lsf.Goals as goal
 
 pub returns-then-header-ne30 : goal.returns-then-header-ne30

@@ -9,7 +9,6 @@ use Rattle.protocol.specs.declared.PacketFrameCounter.{PacketFrameCounter}
 use Rattle.encode.specs.Bodies.{masked, written, packet_body_of}
 use Rattle.encode.proofs.Answers.{packet_short, frame_high, frame_written, final_high, final_written}
 use Rattle.encode.proofs.Fields.{fields_whole}
-use borrow.Author.Rules.{rules}
 use Rattle.encode.proofs.write_packet.Goals as goal
 
 pub returns-then-payload-ne25 : goal.returns-then-payload-ne25

@@ -8,7 +8,6 @@ use Rattle.fec.specs.declared.Kind.TheVariants.{Stream}
 use Rattle.fec.specs.Kinds.{encoded_of}
 use Rattle.encode.specs.Bodies.{masked, written}
 use Rattle.encode.proofs.Answers.{stream_short_part, stream_short, stream_high_index, stream_high, stream_written}
-use borrow.Author.Rules.{rules}
 use Rattle.encode.proofs.write_stream.Goals as goal
 
 pub returns-then-lich_part-ne5 : goal.returns-then-lich_part-ne5

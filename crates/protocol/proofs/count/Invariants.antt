@@ -1,12 +1,8 @@
 -- `protocol::count` meets its contract. The loop's invariant: the flags counted and those left make the whole. Assumes nothing.
 use mathlib.Core.Path.{◌≡◌}
-use mathlib.Core.Logic.{⊎_elim}
 use Prim.Native.Nat.{◌+◌, ◌-◌, ◌≤◌}
 use lib.ListN.{length, drop}
 use Rattle.protocol.specs.Lich.{flags_set}
-use Rattle.protocol.proofs.Flags.{none_left, next_set, next_clear}
-use native.Mathlib.Omega.{arith}
-use borrow.Author.Rules.{rules}
 use Rattle.protocol.proofs.count.Given as goal
 
 abbrev pub invariant-loop-i : goal.invariant-loop-i

@@ -1,7 +1,6 @@
 -- `protocol::new_header` meets its contract. Assumes nothing.
 use mathlib.Core.Path.{◌∙◌}
-use Rattle.protocol.proofs.NewHeader.{short_source, short_destination, bad_source, bad_destination, all_good}
-use borrow.Author.Rules.{rules}
+use Rattle.protocol.proofs.NewHeader.{all_good}
 use Rattle.protocol.proofs.new_header.Goals as goal
 
 pub returns : goal.returns

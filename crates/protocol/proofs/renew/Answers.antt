@@ -1,7 +1,6 @@
 -- `protocol::renew` meets its contract. Assumes nothing.
 use Rattle.protocol.proofs.Held.{held_thirty}
 use Rattle.protocol.proofs.Whole.{renew_bytes}
-use borrow.Author.Rules.{rules}
 use Rattle.protocol.proofs.renew.Goals as goal
 
 pub returns : goal.returns

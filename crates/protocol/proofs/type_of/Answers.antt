@@ -4,7 +4,6 @@ use Prim.Native.Nat.{ℕ, ◌+◌, ◌*◌}
 use Rattle.protocol.proofs.Held.{held_thirty}
 use Rattle.protocol.proofs.Whole.{type_value}
 use native.Mathlib.Omega.{arith}
-use borrow.Author.Rules.{rules}
 use Rattle.protocol.proofs.type_of.Goals as goal
 
 pub returns : goal.returns

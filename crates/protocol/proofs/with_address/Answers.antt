@@ -1,16 +1,15 @@
 -- `protocol::with_address` meets its contract. The loop's invariant: the first `i` of the six bytes stand at their place. Assumes nothing.
 use mathlib.Core.Path.{◌≡◌, ap, ◌∙◌}
 use mathlib.Core.List.{List}
-use Prim.Native.Nat.{ℕ, ◌+◌, ◌-◌, ◌≤◌}
+use Prim.Native.Nat.{ℕ, ◌+◌, ◌≤◌}
 use lib.ListN.{length}
-use lib.Seq.{paste, paste-zero}
+use lib.Seq.{paste}
 use Rattle.laws.specs.Value.{value_of}
 use Rattle.protocol.specs.Fields.{bytes_from, fields_of, renewed, set_field}
 use Rattle.protocol.proofs.Held.{held_thirty}
 use Rattle.laws.proofs.Pasted.{paste_more, paste_all}
 use Rattle.protocol.proofs.Whole.{Thirty, bytes_put}
 use native.Mathlib.Omega.{arith}
-use borrow.Author.Rules.{rules}
 use Rattle.protocol.proofs.with_address.Goals as goal
 
 all : (s b six : List ℕ) (at i : ℕ) {r : List ℕ} → Thirty s → at + 6 ≤ 28 → length six ≡ 6 → i ≡ 6 → b ≡ paste s at six i → r ≡ renewed (fields_of b)

@@ -1,16 +1,8 @@
 -- `protocol::with_address` meets its contract. The loop's invariant: the first `i` of the six bytes stand at their place. Assumes nothing.
-use mathlib.Core.Path.{◌≡◌, ap, ◌∙◌}
-use mathlib.Core.List.{List}
-use Prim.Native.Nat.{ℕ, ◌+◌, ◌-◌, ◌≤◌}
+use mathlib.Core.Path.{◌≡◌}
+use Prim.Native.Nat.{◌-◌, ◌≤◌}
 use lib.ListN.{length}
-use lib.Seq.{paste, paste-zero}
-use Rattle.laws.specs.Value.{value_of}
-use Rattle.protocol.specs.Fields.{bytes_from, fields_of, renewed, set_field}
-use Rattle.protocol.proofs.Held.{held_thirty}
-use Rattle.laws.proofs.Pasted.{paste_more, paste_all}
-use Rattle.protocol.proofs.Whole.{Thirty, bytes_put}
-use native.Mathlib.Omega.{arith}
-use borrow.Author.Rules.{rules}
+use lib.Seq.{paste}
 use Rattle.protocol.proofs.with_address.Given as goal
 
 abbrev pub invariant-loop-i : goal.invariant-loop-i

@@ -1,11 +1,6 @@
 -- `protocol::with_part` meets its contract. The loop's invariant: the first `i` of the five bytes stand at their place. Assumes nothing.
-use mathlib.Core.Path.{◌≡◌}
-use Prim.Native.Nat.{◌-◌, ◌≤◌}
-use lib.ListN.{length}
-use lib.Seq.{paste, paste-zero}
-use Rattle.laws.proofs.Pasted.{paste_more, paste_all}
+use Rattle.laws.proofs.Pasted.{paste_more}
 use native.Mathlib.Omega.{arith}
-use borrow.Author.Rules.{rules}
 use Rattle.protocol.proofs.with_part.Goals as goal
 
 pub loop-i-preserved : goal.loop-i-preserved

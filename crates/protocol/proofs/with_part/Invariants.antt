@@ -2,10 +2,7 @@
 use mathlib.Core.Path.{◌≡◌}
 use Prim.Native.Nat.{◌-◌, ◌≤◌}
 use lib.ListN.{length}
-use lib.Seq.{paste, paste-zero}
-use Rattle.laws.proofs.Pasted.{paste_more, paste_all}
-use native.Mathlib.Omega.{arith}
-use borrow.Author.Rules.{rules}
+use lib.Seq.{paste}
 use Rattle.protocol.proofs.with_part.Given as goal
 
 abbrev pub invariant-loop-i : goal.invariant-loop-i

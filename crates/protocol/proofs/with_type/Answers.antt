@@ -3,7 +3,6 @@ use mathlib.Core.Path.{ap, ◌∙◌}
 use Rattle.protocol.specs.Fields.{renewed, set_field}
 use Rattle.protocol.proofs.Held.{held_thirty}
 use Rattle.protocol.proofs.Whole.{type_put}
-use borrow.Author.Rules.{rules}
 use Rattle.protocol.proofs.with_type.Goals as goal
 
 pub returns : goal.returns

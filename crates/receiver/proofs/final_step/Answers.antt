@@ -1,11 +1,7 @@
 -- `receiver::final_step` meets its contract. Assumes nothing.
-use mathlib.Core.Path.{sym}
 use native.Mathlib.Omega.{arith}
-use Prim.Native.Nat.{◌*◌}
-use lib.Seq.{length-take-le}
 use Rattle.laws.specs.Value.{Bytes}
 use Rattle.receiver.proofs.Pieces.{final_empty, final_long, final_short, final_wrong, final_right}
-use borrow.Author.Rules.{rules}
 use Rattle.receiver.proofs.final_step.Goals as goal
 
 pub returns-then-len-eq0 : goal.returns-then-len-eq0

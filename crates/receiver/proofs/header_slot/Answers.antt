@@ -5,8 +5,7 @@ use Rattle.decode.specs.declared.LsfRead.{LsfRead}
 use Rattle.automaton.specs.Step.{idle}
 use Rattle.receiver.specs.See.{header_seen}
 use Rattle.receiver.specs.Receiver.{taken}
-use Rattle.receiver.proofs.Taken.{unread-taken, header_good, header_bad, header_refused}
-use borrow.Author.Rules.{rules}
+use Rattle.receiver.proofs.Taken.{unread-taken, header_bad, header_refused}
 use Rattle.receiver.proofs.header_slot.Goals as goal
 
 pub returns-then-check_crc-ne0 : goal.returns-then-check_crc-ne0

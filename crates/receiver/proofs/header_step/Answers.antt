@@ -1,7 +1,6 @@
 -- `receiver::header_step` meets its contract. Assumes nothing.
 use mathlib.Core.Path.{sym, ◌∙◌}
 use Rattle.receiver.proofs.Taken.{opens}
-use borrow.Author.Rules.{rules}
 use Rattle.receiver.proofs.header_step.Goals as goal
 
 pub returns-in-Stream : goal.returns-in-Stream

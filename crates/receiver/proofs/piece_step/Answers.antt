@@ -1,6 +1,5 @@
 -- `receiver::piece_step` meets its contract. Assumes nothing.
 use Rattle.receiver.proofs.Pieces.{piece_other, piece-stored}
-use borrow.Author.Rules.{rules}
 use Rattle.receiver.proofs.piece_step.Goals as goal
 
 pub returns-then-number-n : goal.returns-then-number-n

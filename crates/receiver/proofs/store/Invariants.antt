@@ -1,10 +1,8 @@
 -- `receiver::store` meets its contract: after i turns i elements are copied. Assumes nothing.
-use mathlib.Core.Path.{◌≡◌, refl}
+use mathlib.Core.Path.{◌≡◌}
 use Prim.Native.Nat.{◌-◌, ◌≤◌}
-use native.Mathlib.Omega.{arith}
-use lib.ListN.{length, length-set}
-use lib.Seq.{paste, paste-zero}
-use Rattle.laws.proofs.Pasted.{paste_more, paste_all}
+use lib.ListN.{length}
+use lib.Seq.{paste}
 use Rattle.receiver.proofs.store.Given as goal
 
 abbrev pub invariant-loop-i : goal.invariant-loop-i

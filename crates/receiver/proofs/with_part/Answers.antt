@@ -1,6 +1,4 @@
 -- `receiver::with_part` meets its contract. Assumes nothing.
-use mathlib.Core.Path.{sym}
-use native.Mathlib.Omega.{arith}
 use Prim.Native.Nat.{◌*◌}
 use lib.ListN.{take}
 use lib.Seq.{length-take-le}

@@ -2,7 +2,6 @@
 use mathlib.Core.Path.{sym}
 use Rattle.protocol.proofs.TypeBits.{type_read}
 use native.Mathlib.Omega.{arith}
-use borrow.Author.Rules.{rules}
 use Rattle.protocol.proofs.LsfFrame.channel_access_number.Goals as goal
 
 pub returns : goal.returns

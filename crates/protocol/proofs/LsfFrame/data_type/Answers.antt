@@ -2,7 +2,6 @@
 use native.Mathlib.Omega.{arith}
 use Rattle.protocol.specs.Numbers.{data_of}
 use Rattle.protocol.proofs.TypeBits.{type_says}
-use borrow.Author.Rules.{rules}
 use Rattle.protocol.proofs.LsfFrame.data_type.Goals as goal
 
 pub returns-in-0 : goal.returns-in-0

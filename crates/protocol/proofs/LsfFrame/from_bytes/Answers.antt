@@ -1,14 +1,10 @@
 -- `protocol::LsfFrame::from_bytes` meets its contract. The loop's invariant: the first `i` bytes are copied. Assumes nothing.
-use mathlib.Core.Path.{◌≡◌, refl, ap, ◌∙◌}
+use mathlib.Core.Path.{refl, ap, ◌∙◌}
 use mathlib.Core.List.{List}
-use Prim.Native.Nat.{ℕ, ◌-◌, ◌≤◌}
-use lib.ListN.{length, get_or, set}
-use borrow.Author.Tests.{eq-eqb, ne_eqb}
-use Rattle.refusal.specs.declared.Verdict.TheVariants.{Done}
-use Rattle.laws.proofs.InPlace.{done, done_more, done_all}
-use Rattle.protocol.specs.Header.{answered}
+use Prim.Native.Nat.{ℕ}
+use lib.ListN.{get_or, set}
+use Rattle.laws.proofs.InPlace.{done_more}
 use native.Mathlib.Omega.{arith}
-use borrow.Author.Rules.{rules}
 use Rattle.protocol.proofs.LsfFrame.from_bytes.Goals as goal
 
 pub loop-i-preserved : goal.loop-i-preserved

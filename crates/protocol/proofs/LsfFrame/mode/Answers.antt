@@ -2,7 +2,6 @@
 use native.Mathlib.Omega.{arith}
 use Rattle.protocol.specs.Numbers.{mode_of}
 use Rattle.protocol.proofs.TypeBits.{type_says}
-use borrow.Author.Rules.{rules}
 use Rattle.protocol.proofs.LsfFrame.mode.Goals as goal
 
 pub returns-then-type_of-eq0 : goal.returns-then-type_of-eq0

@@ -1,11 +1,10 @@
 -- `protocol::LsfFrame::set_channel_access_number` meets its contract. Assumes nothing.
 use mathlib.Core.Path.{ap, ◌∙◌}
-use borrow.Author.Tests.{le-leb, lt-leb}
+use borrow.Author.Tests.{le-leb}
 use Rattle.refusal.specs.declared.Verdict.TheVariants.{Done}
 use Rattle.protocol.specs.Header.{answered}
 use Rattle.protocol.proofs.TypeBits.{type_set}
 use native.Mathlib.Omega.{arith}
-use borrow.Author.Rules.{rules}
 use Rattle.protocol.proofs.LsfFrame.set_channel_access_number.Goals as goal
 
 pub returns : goal.returns

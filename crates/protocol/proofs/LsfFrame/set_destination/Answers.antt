@@ -3,8 +3,7 @@ use mathlib.Core.Path.{ap, ◌∙◌}
 use Rattle.refusal.specs.declared.Verdict.TheVariants.{Done}
 use Rattle.protocol.specs.Fields.{destination_bytes}
 use Rattle.protocol.specs.Header.{answered}
-use Rattle.protocol.proofs.Written.{set_refused, set_done}
-use borrow.Author.Rules.{rules}
+use Rattle.protocol.proofs.Written.{set_done}
 use Rattle.protocol.proofs.LsfFrame.set_destination.Goals as goal
 
 pub returns-in-Done : goal.returns-in-Done

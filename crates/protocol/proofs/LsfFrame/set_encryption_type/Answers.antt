@@ -4,7 +4,6 @@ use Rattle.protocol.specs.Numbers.{encryption_number}
 use Rattle.protocol.specs.Header.{header}
 use Rattle.protocol.proofs.TypeBits.{type_set}
 use native.Mathlib.Omega.{arith}
-use borrow.Author.Rules.{rules}
 use Rattle.protocol.proofs.LsfFrame.set_encryption_type.Goals as goal
 
 pub returns : goal.returns

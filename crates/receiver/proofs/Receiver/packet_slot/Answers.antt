@@ -1,13 +1,8 @@
 -- `receiver::Receiver::packet_slot` meets its contract. Assumes nothing.
 use mathlib.Core.Path.{refl, sym, ap, ◌∙◌}
-use lib.ListN.{length}
-use Rattle.decode.proofs.Ranges.{packet_range}
-use Rattle.decode.specs.declared.PacketRead.{PacketRead}
-use Rattle.receiver.specs.declared.Phase.{Phase}
 use Rattle.receiver.specs.See.{packet_seen}
-use Rattle.receiver.specs.Receiver.{meaning, state_of}
-use Rattle.receiver.proofs.Taken.{packet_refused, packet_counted, not_open, within_packet, takes_as, unread_takes}
-use borrow.Author.Rules.{rules}
+use Rattle.receiver.specs.Receiver.{state_of}
+use Rattle.receiver.proofs.Taken.{packet_refused, packet_counted, not_open, takes_as, unread_takes}
 use Rattle.receiver.proofs.Receiver.packet_slot.Goals as goal
 
 pub returns-in-Refused : goal.returns-in-Refused

@@ -1,8 +1,6 @@
 -- `receiver::Receiver::receive` meets its contract. Assumes nothing.
 use mathlib.Core.Path.{refl, sym, ◌∙◌}
-use borrow.Author.Tests.{not-true, not-false}
 use Rattle.receiver.proofs.Whole.{behind_is, no_slot_lem, no_memory, no_state, header_heard, stream_heard, packet_heard, end_heard, unknown_heard}
-use borrow.Author.Rules.{rules}
 use Rattle.receiver.proofs.Receiver.receive.Goals as goal
 
 pub returns-then-slot-ne48 : goal.returns-then-slot-ne48

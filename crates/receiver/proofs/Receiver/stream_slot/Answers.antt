@@ -4,8 +4,7 @@ use mathlib.Core.List.{[]}
 use Rattle.decode.specs.declared.StreamRead.{StreamRead}
 use Rattle.receiver.specs.See.{stream_seen}
 use Rattle.receiver.specs.Receiver.{state_of, taken}
-use Rattle.receiver.proofs.Taken.{unread-taken, stream_good, stream_refused}
-use borrow.Author.Rules.{rules}
+use Rattle.receiver.proofs.Taken.{unread-taken, stream_refused}
 use Rattle.receiver.proofs.Receiver.stream_slot.Goals as goal
 
 pub returns-in-Refused : goal.returns-in-Refused

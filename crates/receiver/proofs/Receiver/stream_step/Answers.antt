@@ -1,8 +1,6 @@
 -- `receiver::Receiver::stream_step` meets its contract. Assumes nothing.
 use mathlib.Core.Path.{◌∙◌}
-use native.Mathlib.Omega.{arith}
-use Rattle.receiver.proofs.Gather.{gathered≤5, part_first, part_other, part_more, part_spoiled, part_last}
-use borrow.Author.Rules.{rules}
+use Rattle.receiver.proofs.Gather.{part_first, part_other, part_more, part_spoiled, part_last}
 use Rattle.receiver.proofs.Receiver.stream_step.Goals as goal
 
 pub returns-then-counter-eq0 : goal.returns-then-counter-eq0

@@ -1,4 +1,4 @@
-/* The M17 bit codec, proved. Link with libm17.a, which `rt staticlib m17` writes to target/staticlib/.
+/* The M17 bit codec, proved. Link with libm17.a, which bindings/library writes to target/staticlib/.
  *
  * Every buffer is a pointer and, right after it, its length. A function that can refuse returns 0 or the number of its
  * refusal; on a refusal it leaves every lent buffer and number as it was. A buffer of another length than the one named,

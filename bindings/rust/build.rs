@@ -1,4 +1,4 @@
-//! Links libm17.a: from the folder that `OKIHEMON_LIB` names, else from where `rt staticlib m17` writes it.
+//! Links libm17.a: from the folder that `OKIHEMON_LIB` names, else from where `bindings/library` writes it.
 use std::{env, path::PathBuf, process::exit};
 
 fn main() {
@@ -15,7 +15,7 @@ fn main() {
     let archive = folder.join("libm17.a");
     if !archive.is_file() {
         stop(&format!(
-            "{} is not there: run `rt staticlib m17` in the repository, which writes it for x86-64 Linux, \
+            "{} is not there: run `bindings/library` in the repository, which writes it for x86-64 Linux, \
              or name its folder in OKIHEMON_LIB",
             archive.display()
         ));

@@ -1,4 +1,4 @@
-//! Links the static library (`cfg(linked)`): that of `rt staticlib m17` on x86-64, which it is for, or with NATIVE=yes the
+//! Links the static library (`cfg(linked)`): that of `bindings/library` on x86-64, which it is for, or with NATIVE=yes the
 //! one that `bench/native` has written for this processor. Else it goes into a bridge, a program that an emulator runs.
 use std::{env, fs, path::PathBuf, process::Command};
 

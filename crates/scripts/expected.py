@@ -5,7 +5,7 @@ crates/scripts/stdout was made by
 
     python3 crates/scripts/expected.py > crates/scripts/stdout
 
-and the program is held to it by `rt check scripts`. Nothing here is taken from the program's output or from the Rattle code. The model knows
+and the program is held to it by `rt ci`. Nothing here is taken from the program's output or from the Rattle code. The model knows
 what was written into each slot and how the slot was damaged, so it decodes nothing. Whether a damaged slot still reads follows from the flipped
 bits alone, since the code is linear: their least distance from any word is computed, and where it is within six, that the word written is the
 only nearest one.

@@ -120,8 +120,7 @@ fn give_packet(read: PacketRead, final_frame: &mut u8, number: &mut usize, paylo
     }
 }
 
-#[unsafe(no_mangle)]
-pub extern "C" fn m17_encode_lich(counter: u8, part: &[u8], out: &mut [u8]) -> u8
+pub fn m17_encode_lich(counter: u8, part: &[u8], out: &mut [u8]) -> u8
     ensures { (result ≡ lent_said 12 out.old (lich_of counter part.now).answer) × (out.new ≡ lent_bytes 12 out.old (lich_of counter part.now).answer (lich_of counter part.now).bytes) }
 {
     let done = encode::encode_lich(counter, part);
@@ -130,8 +129,7 @@ pub extern "C" fn m17_encode_lich(counter: u8, part: &[u8], out: &mut [u8]) -> u
     give(answer, &bytes, out)
 }
 
-#[unsafe(no_mangle)]
-pub extern "C" fn m17_decode_lich(lich: &[u8], counter: &mut u8, part: &mut [u8]) -> u8
+pub fn m17_decode_lich(lich: &[u8], counter: &mut u8, part: &mut [u8]) -> u8
     ensures { LichLent (lich_read_of lich.now) (lich_memory counter.old part.old) result (lich_memory counter.new part.new) }
 {
     if part.len() != 5 {
@@ -149,22 +147,19 @@ pub extern "C" fn m17_decode_lich(lich: &[u8], counter: &mut u8, part: &mut [u8]
     }
 }
 
-#[unsafe(no_mangle)]
-pub extern "C" fn m17_write_lsf(header: &[u8], out: &mut [u8]) -> u8
+pub fn m17_write_lsf(header: &[u8], out: &mut [u8]) -> u8
     ensures { (result ≡ lent_said 46 out.old (lsf_body_of header.now).answer) × (out.new ≡ lent_bytes 46 out.old (lsf_body_of header.now).answer (lsf_body_of header.now).bytes) }
 {
     give_body(encode::write_lsf(header), out)
 }
 
-#[unsafe(no_mangle)]
-pub extern "C" fn m17_read_lsf(body: &[u8], out: &mut [u8]) -> u8
+pub fn m17_read_lsf(body: &[u8], out: &mut [u8]) -> u8
     ensures { (result ≡ lent_said 30 out.old (lsf_read_of body.now).answer) × (out.new ≡ lent_bytes 30 out.old (lsf_read_of body.now).answer (lsf_read_of body.now).frame.bytes) }
 {
     give_lsf(decode::read_lsf(body), out)
 }
 
-#[unsafe(no_mangle)]
-pub extern "C" fn m17_write_stream(
+pub fn m17_write_stream(
     lich_idx: u8,
     lich_part: &[u8],
     frame_number: u16,
@@ -184,8 +179,7 @@ pub extern "C" fn m17_write_stream(
     give_body(done, out)
 }
 
-#[unsafe(no_mangle)]
-pub extern "C" fn m17_read_stream(
+pub fn m17_read_stream(
     body: &[u8],
     lich_idx: &mut u8,
     lich_part: &mut [u8],
@@ -205,13 +199,7 @@ pub extern "C" fn m17_read_stream(
     )
 }
 
-#[unsafe(no_mangle)]
-pub extern "C" fn m17_write_packet(
-    final_frame: u8,
-    number: usize,
-    payload: &[u8],
-    out: &mut [u8],
-) -> u8
+pub fn m17_write_packet(final_frame: u8, number: usize, payload: &[u8], out: &mut [u8]) -> u8
     ensures { (result ≡ lent_said 46 out.old (packet_body_of (counter_for final_frame number) payload.now).answer) × (out.new ≡ lent_bytes 46 out.old (packet_body_of (counter_for final_frame number) payload.now).answer (packet_body_of (counter_for final_frame number) payload.now).bytes) }
 {
     give_body(
@@ -220,8 +208,7 @@ pub extern "C" fn m17_write_packet(
     )
 }
 
-#[unsafe(no_mangle)]
-pub extern "C" fn m17_read_packet(
+pub fn m17_read_packet(
     body: &[u8],
     final_frame: &mut u8,
     number: &mut usize,
@@ -273,37 +260,32 @@ fn framed(kind: u8, body: &[u8]) -> Symbols
     encode::body_symbols(kind_for(kind), body)
 }
 
-#[unsafe(no_mangle)]
-pub extern "C" fn m17_body_to_symbols(kind: u8, body: &[u8], out: &mut [f32]) -> u8
+pub fn m17_body_to_symbols(kind: u8, body: &[u8], out: &mut [f32]) -> u8
     ensures { (result ≡ lent_said 192 out.old (framed_of kind body.now).answer) × (out.new ≡ lent_bytes 192 out.old (framed_of kind body.now).answer (framed_of kind body.now).symbols) }
 {
     give_symbols(framed(kind, body), out)
 }
 
-#[unsafe(no_mangle)]
-pub extern "C" fn m17_symbols_to_body(symbols: &[f32], out: &mut [u8]) -> u8
+pub fn m17_symbols_to_body(symbols: &[f32], out: &mut [u8]) -> u8
     ensures { (result ≡ lent_said 46 out.old (body_read_of symbols.now).answer) × (out.new ≡ lent_bytes 46 out.old (body_read_of symbols.now).answer (body_read_of symbols.now).bytes) }
 {
     give_body(decode::body_of(symbols), out)
 }
 
-#[unsafe(no_mangle)]
-pub extern "C" fn m17_frame_initial_decode(symbols: &[f32], out: &mut [u8]) -> u8
+pub fn m17_frame_initial_decode(symbols: &[f32], out: &mut [u8]) -> u8
     ensures { (result ≡ lent_said 46 out.old (initial_of symbols.now).answer) × (out.new ≡ lent_bytes 46 out.old (initial_of symbols.now).answer (initial_of symbols.now).bytes) }
 {
     give_body(decode::frame_initial_decode(symbols), out)
 }
 
-#[unsafe(no_mangle)]
-pub extern "C" fn m17_encode_lsf(header: &[u8], out: &mut [f32]) -> u8
+pub fn m17_encode_lsf(header: &[u8], out: &mut [f32]) -> u8
     ensures { (result ≡ lent_said 192 out.old (lsf_symbols_of (lsf_frame header.now)).answer) × (out.new ≡ lent_bytes 192 out.old (lsf_symbols_of (lsf_frame header.now)).answer (lsf_symbols_of (lsf_frame header.now)).symbols) }
 {
     let body = encode::write_lsf(header);
     give_symbols(encode::symbols_from(Kind::Header, body), out)
 }
 
-#[unsafe(no_mangle)]
-pub extern "C" fn m17_encode_stream(
+pub fn m17_encode_stream(
     lich_idx: u8,
     lich_part: &[u8],
     frame_number: u16,
@@ -323,28 +305,20 @@ pub extern "C" fn m17_encode_stream(
     give_symbols(encode::symbols_from(Kind::Stream, body), out)
 }
 
-#[unsafe(no_mangle)]
-pub extern "C" fn m17_encode_packet(
-    final_frame: u8,
-    number: usize,
-    payload: &[u8],
-    out: &mut [f32],
-) -> u8
+pub fn m17_encode_packet(final_frame: u8, number: usize, payload: &[u8], out: &mut [f32]) -> u8
     ensures { (result ≡ lent_said 192 out.old (packet_symbols_of (packet_frame final_frame number payload.now)).answer) × (out.new ≡ lent_bytes 192 out.old (packet_symbols_of (packet_frame final_frame number payload.now)).answer (packet_symbols_of (packet_frame final_frame number payload.now)).symbols) }
 {
     let body = encode::write_packet(counter_for(final_frame, number), payload);
     give_symbols(encode::symbols_from(Kind::Packet, body), out)
 }
 
-#[unsafe(no_mangle)]
-pub extern "C" fn m17_parse_lsf(symbols: &[f32], out: &mut [u8]) -> u8
+pub fn m17_parse_lsf(symbols: &[f32], out: &mut [u8]) -> u8
     ensures { (result ≡ lent_said 30 out.old (lsf_parsed_of symbols.now).answer) × (out.new ≡ lent_bytes 30 out.old (lsf_parsed_of symbols.now).answer (lsf_parsed_of symbols.now).frame.bytes) }
 {
     give_lsf(decode::parse_lsf(symbols), out)
 }
 
-#[unsafe(no_mangle)]
-pub extern "C" fn m17_parse_stream(
+pub fn m17_parse_stream(
     symbols: &[f32],
     lich_idx: &mut u8,
     lich_part: &mut [u8],
@@ -364,8 +338,7 @@ pub extern "C" fn m17_parse_stream(
     )
 }
 
-#[unsafe(no_mangle)]
-pub extern "C" fn m17_parse_packet(
+pub fn m17_parse_packet(
     symbols: &[f32],
     final_frame: &mut u8,
     number: &mut usize,

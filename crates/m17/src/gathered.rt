@@ -64,8 +64,7 @@ fn collection(parts: &[u8], set: &[u8]) -> LichCollection
     LichCollection { bytes, set: flags }
 }
 
-#[unsafe(no_mangle)]
-pub extern "C" fn m17_valid_segments(set: &[u8], out: &mut u8) -> u8
+pub fn m17_valid_segments(set: &[u8], out: &mut u8) -> u8
     ensures { (result ≡ said_of (six_flags set.now verdict.Done)) × (out.new ≡ number_given (six_flags set.now verdict.Done) (flags_set (flagged set.now)) out.old) }
 {
     if set.len() != 6 {
@@ -87,8 +86,7 @@ fn give_parts(answer: Verdict, new: LichCollection, parts: &mut [u8]) -> u8
     give(answer, &bytes, parts)
 }
 
-#[unsafe(no_mangle)]
-pub extern "C" fn m17_set_segment(parts: &mut [u8], set: &mut [u8], counter: u8, part: &[u8]) -> u8
+pub fn m17_set_segment(parts: &mut [u8], set: &mut [u8], counter: u8, part: &[u8]) -> u8
     ensures { (result ≡ said_of (both_long parts.old set.old (set_of counter part.now (collection_for parts.old set.old)).answer)) × (parts.new ≡ bytes_given (both_long parts.old set.old (set_of counter part.now (collection_for parts.old set.old)).answer) (set_of counter part.now (collection_for parts.old set.old)).collection.bytes parts.old) × (set.new ≡ bytes_given (both_long parts.old set.old (set_of counter part.now (collection_for parts.old set.old)).answer) (flag_bytes (set_of counter part.now (collection_for parts.old set.old)).collection.set) set.old) }
 {
     if parts.len() != 30 {
@@ -106,13 +104,7 @@ pub extern "C" fn m17_set_segment(parts: &mut [u8], set: &mut [u8], counter: u8,
     give_parts(answer, new, parts)
 }
 
-#[unsafe(no_mangle)]
-pub extern "C" fn m17_try_assemble(
-    parts: &[u8],
-    set: &[u8],
-    assembled: &mut u8,
-    out: &mut [u8],
-) -> u8
+pub fn m17_try_assemble(parts: &[u8], set: &[u8], assembled: &mut u8, out: &mut [u8]) -> u8
     ensures { (result ≡ said_of (all_long parts.now set.now out.old)) × (assembled.new ≡ number_given (all_long parts.now set.now out.old) (assembled_number (assembled_of (collection_for parts.now set.now)).answer) assembled.old) × (out.new ≡ bytes_given (all_long parts.now set.now out.old) (assembled_given (assembled_of (collection_for parts.now set.now)).answer (assembled_of (collection_for parts.now set.now)).bytes out.old) out.old) }
 {
     if parts.len() != 30 {

@@ -33,8 +33,7 @@ fn frame(header: &[u8]) -> LsfFrame
     made.header
 }
 
-#[unsafe(no_mangle)]
-pub extern "C" fn m17_check_crc(header: &[u8], out: &mut u16) -> u8
+pub fn m17_check_crc(header: &[u8], out: &mut u16) -> u8
     ensures { (result ≡ said_of (thirty header.now)) × (out.new ≡ number_given (thirty header.now) (crc header.now) out.old) }
 {
     if header.len() != 30 {
@@ -56,13 +55,7 @@ fn destination_of(header: &[u8]) -> Reading
     frame(header).destination()
 }
 
-#[unsafe(no_mangle)]
-pub extern "C" fn m17_destination(
-    header: &[u8],
-    kind: &mut u8,
-    value: &mut u64,
-    callsign: &mut [u8],
-) -> u8
+pub fn m17_destination(header: &[u8], kind: &mut u8, value: &mut u64, callsign: &mut [u8]) -> u8
     ensures { (result ≡ number_of_heard (heard_into callsign.old (address_at 0 header.now).answer)) × (kind.new ≡ heard_given address_kind (heard_into callsign.old (address_at 0 header.now).answer) kind.old) × (value.new ≡ heard_given reserved_of (heard_into callsign.old (address_at 0 header.now).answer) value.old) × (callsign.new ≡ characters_given (heard_into callsign.old (address_at 0 header.now).answer) (address_at 0 header.now).callsign callsign.old) }
 {
     give_address(destination_of(header), kind, value, callsign)
@@ -80,13 +73,7 @@ fn source_of(header: &[u8]) -> Reading
     frame(header).source()
 }
 
-#[unsafe(no_mangle)]
-pub extern "C" fn m17_source(
-    header: &[u8],
-    kind: &mut u8,
-    value: &mut u64,
-    callsign: &mut [u8],
-) -> u8
+pub fn m17_source(header: &[u8], kind: &mut u8, value: &mut u64, callsign: &mut [u8]) -> u8
     ensures { (result ≡ number_of_heard (heard_into callsign.old (address_at 6 header.now).answer)) × (kind.new ≡ heard_given address_kind (heard_into callsign.old (address_at 6 header.now).answer) kind.old) × (value.new ≡ heard_given reserved_of (heard_into callsign.old (address_at 6 header.now).answer) value.old) × (callsign.new ≡ characters_given (heard_into callsign.old (address_at 6 header.now).answer) (address_at 6 header.now).callsign callsign.old) }
 {
     give_address(source_of(header), kind, value, callsign)
@@ -101,8 +88,7 @@ fn mode_number(mode: Mode) -> u8
     }
 }
 
-#[unsafe(no_mangle)]
-pub extern "C" fn m17_mode(header: &[u8], out: &mut u8) -> u8
+pub fn m17_mode(header: &[u8], out: &mut u8) -> u8
     ensures { (result ≡ said_of (thirty header.now)) × (out.new ≡ number_given (thirty header.now) (field mode_bits header.now) out.old) }
 {
     let number = mode_number(frame(header).mode());
@@ -120,8 +106,7 @@ fn data_number(data_type: DataType) -> u8
     }
 }
 
-#[unsafe(no_mangle)]
-pub extern "C" fn m17_data_type(header: &[u8], out: &mut u8) -> u8
+pub fn m17_data_type(header: &[u8], out: &mut u8) -> u8
     ensures { (result ≡ said_of (thirty header.now)) × (out.new ≡ number_given (thirty header.now) (field data_bits header.now) out.old) }
 {
     let number = data_number(frame(header).data_type());
@@ -139,24 +124,21 @@ fn encryption_number(encryption_type: EncryptionType) -> u8
     }
 }
 
-#[unsafe(no_mangle)]
-pub extern "C" fn m17_encryption_type(header: &[u8], out: &mut u8) -> u8
+pub fn m17_encryption_type(header: &[u8], out: &mut u8) -> u8
     ensures { (result ≡ said_of (thirty header.now)) × (out.new ≡ number_given (thirty header.now) (field encryption_bits header.now) out.old) }
 {
     let number = encryption_number(frame(header).encryption_type());
     give_number(judged(header), number, out)
 }
 
-#[unsafe(no_mangle)]
-pub extern "C" fn m17_channel_access_number(header: &[u8], out: &mut u8) -> u8
+pub fn m17_channel_access_number(header: &[u8], out: &mut u8) -> u8
     ensures { (result ≡ said_of (thirty header.now)) × (out.new ≡ number_given (thirty header.now) (field channel_bits header.now) out.old) }
 {
     let number = frame(header).channel_access_number();
     give_number(judged(header), number, out)
 }
 
-#[unsafe(no_mangle)]
-pub extern "C" fn m17_meta(header: &[u8], out: &mut [u8]) -> u8
+pub fn m17_meta(header: &[u8], out: &mut [u8]) -> u8
     ensures { (result ≡ lent_said 14 out.old (thirty header.now)) × (out.new ≡ lent_bytes 14 out.old (thirty header.now) (take 14 (drop 14 header.now))) }
 {
     let bytes = frame(header).meta();
@@ -172,13 +154,7 @@ fn put(answer: Verdict, made: Made, out: &mut [u8]) -> u8
     give(answer, &bytes, out)
 }
 
-#[unsafe(no_mangle)]
-pub extern "C" fn m17_set_destination(
-    header: &mut [u8],
-    kind: u8,
-    value: u64,
-    callsign: &[u8],
-) -> u8
+pub fn m17_set_destination(header: &mut [u8], kind: u8, value: u64, callsign: &[u8]) -> u8
     ensures { (result ≡ lent_said 30 header.old (address_written_of kind value callsign.now).answer) × (header.new ≡ lent_bytes 30 header.old (address_written_of kind value callsign.now).answer (with_address destination_bytes kind value callsign.now header.old)) }
 {
     let written = written_address(kind, value, callsign);
@@ -187,8 +163,7 @@ pub extern "C" fn m17_set_destination(
     put(answer, made, header)
 }
 
-#[unsafe(no_mangle)]
-pub extern "C" fn m17_set_source(header: &mut [u8], kind: u8, value: u64, callsign: &[u8]) -> u8
+pub fn m17_set_source(header: &mut [u8], kind: u8, value: u64, callsign: &[u8]) -> u8
     ensures { (result ≡ lent_said 30 header.old (address_written_of kind value callsign.now).answer) × (header.new ≡ lent_bytes 30 header.old (address_written_of kind value callsign.now).answer (with_address source_bytes kind value callsign.now header.old)) }
 {
     let written = written_address(kind, value, callsign);
@@ -216,8 +191,7 @@ fn mode_of(number: u8) -> Mode
     }
 }
 
-#[unsafe(no_mangle)]
-pub extern "C" fn m17_set_mode(header: &mut [u8], mode: u8) -> u8
+pub fn m17_set_mode(header: &mut [u8], mode: u8) -> u8
     ensures { (result ≡ lent_said 30 header.old (up_to 1 mode)) × (header.new ≡ lent_bytes 30 header.old (up_to 1 mode) (set_field mode_bits mode header.old)) }
 {
     let new = frame(header).set_mode(mode_of(mode));
@@ -236,8 +210,7 @@ fn data_of(number: u8) -> DataType
     }
 }
 
-#[unsafe(no_mangle)]
-pub extern "C" fn m17_set_data_type(header: &mut [u8], data_type: u8) -> u8
+pub fn m17_set_data_type(header: &mut [u8], data_type: u8) -> u8
     ensures { (result ≡ lent_said 30 header.old (up_to 3 data_type)) × (header.new ≡ lent_bytes 30 header.old (up_to 3 data_type) (set_field data_bits data_type header.old)) }
 {
     let new = frame(header).set_data_type(data_of(data_type));
@@ -256,8 +229,7 @@ fn encryption_of(number: u8) -> EncryptionType
     }
 }
 
-#[unsafe(no_mangle)]
-pub extern "C" fn m17_set_encryption_type(header: &mut [u8], encryption_type: u8) -> u8
+pub fn m17_set_encryption_type(header: &mut [u8], encryption_type: u8) -> u8
     ensures { (result ≡ lent_said 30 header.old (up_to 3 encryption_type)) × (header.new ≡ lent_bytes 30 header.old (up_to 3 encryption_type) (set_field encryption_bits encryption_type header.old)) }
 {
     let new = frame(header).set_encryption_type(encryption_of(encryption_type));
@@ -265,8 +237,7 @@ pub extern "C" fn m17_set_encryption_type(header: &mut [u8], encryption_type: u8
     give(up_to(3, encryption_type), &bytes, header)
 }
 
-#[unsafe(no_mangle)]
-pub extern "C" fn m17_set_channel_access_number(header: &mut [u8], number: u8) -> u8
+pub fn m17_set_channel_access_number(header: &mut [u8], number: u8) -> u8
     ensures { (result ≡ lent_said 30 header.old (up_to 15 number)) × (header.new ≡ lent_bytes 30 header.old (up_to 15 number) (set_field channel_bits number header.old)) }
 {
     let made = frame(header).set_channel_access_number(number);
@@ -298,8 +269,7 @@ fn both_judged(
     answer
 }
 
-#[unsafe(no_mangle)]
-pub extern "C" fn m17_new_voice(
+pub fn m17_new_voice(
     source_kind: u8,
     source_value: u64,
     source: &[u8],
@@ -321,8 +291,7 @@ pub extern "C" fn m17_new_voice(
     put(answer, made, out)
 }
 
-#[unsafe(no_mangle)]
-pub extern "C" fn m17_new_packet(
+pub fn m17_new_packet(
     source_kind: u8,
     source_value: u64,
     source: &[u8],

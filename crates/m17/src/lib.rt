@@ -16,10 +16,10 @@ ghost use Rattle.m17.specs.Given.{bit_given, read_number, next_given, number_giv
 ghost use Rattle.m17.specs.Fec.{kind_for, coded_of, kind_read_of};
 ghost use Rattle.m17.specs.Addresses.{address_kind, reserved_of, address_for, address_written_of};
 
-mod frames;
-mod gathered;
-mod header;
-mod receiving;
+pub mod frames;
+pub mod gathered;
+pub mod header;
+pub mod receiving;
 
 use address::{Address, Heard, Written};
 use bits::{Bit, NextBit};
@@ -93,8 +93,7 @@ fn flag(yes: bool) -> u8
     0
 }
 
-#[unsafe(no_mangle)]
-pub extern "C" fn m17_get_bit(bytes: &[u8], place: usize, out: &mut u8) -> u8
+pub fn m17_get_bit(bytes: &[u8], place: usize, out: &mut u8) -> u8
     ensures { (result ≡ number_of_bit (get_of bytes.now place)) × (out.new ≡ bit_given (get_of bytes.now place) out.old) }
 {
     match bits::get_bit(bytes, place) {
@@ -106,16 +105,14 @@ pub extern "C" fn m17_get_bit(bytes: &[u8], place: usize, out: &mut u8) -> u8
     }
 }
 
-#[unsafe(no_mangle)]
-pub extern "C" fn m17_set_bit(bytes: &mut [u8], place: usize, value: u8) -> u8
+pub fn m17_set_bit(bytes: &mut [u8], place: usize, value: u8) -> u8
     ensures { (result ≡ said_of (set_of bytes.old place)) × (bytes.new ≡ with_bit bytes.old place value) }
 {
     refusal::said(bits::set_bit(bytes, place, value))
 }
 
 // The end is no refusal: `read` is 1 with a bit, 0 at the end.
-#[unsafe(no_mangle)]
-pub extern "C" fn m17_next_bit(bytes: &[u8], place: &mut usize, read: &mut u8, out: &mut u8)
+pub fn m17_next_bit(bytes: &[u8], place: &mut usize, read: &mut u8, out: &mut u8)
     ensures { (place.new ≡ (step_of bytes.now place.old).place) × (read.new ≡ read_number (next_of bytes.now place.old)) × (out.new ≡ next_given (next_of bytes.now place.old) out.old) }
 {
     let step = bits::next_bit(bytes, *place);
@@ -132,29 +129,25 @@ pub extern "C" fn m17_next_bit(bytes: &[u8], place: &mut usize, read: &mut u8, o
     }
 }
 
-#[unsafe(no_mangle)]
-pub extern "C" fn m17_crc(input: &[u8]) -> u16
+pub fn m17_crc(input: &[u8]) -> u16
     ensures { result ≡ crc input.now }
 {
     crc::m17_crc(input)
 }
 
-#[unsafe(no_mangle)]
-pub extern "C" fn m17_crc_update(start: u16, input: &[u8]) -> u16
+pub fn m17_crc_update(start: u16, input: &[u8]) -> u16
     ensures { result ≡ crc_from start input.now }
 {
     crc::update(start, input)
 }
 
-#[unsafe(no_mangle)]
-pub extern "C" fn m17_random_xor(bytes: &mut [u8])
+pub fn m17_random_xor(bytes: &mut [u8])
     ensures { bytes.new ≡ xored bytes.old }
 {
     random::random_xor(bytes)
 }
 
-#[unsafe(no_mangle)]
-pub extern "C" fn m17_interleave(payload: &[u8], out: &mut [u8]) -> u8
+pub fn m17_interleave(payload: &[u8], out: &mut [u8]) -> u8
     ensures { (result ≡ lent_said 46 out.old (interleaved_of payload.now).answer) × (out.new ≡ lent_bytes 46 out.old (interleaved_of payload.now).answer (interleaved_of payload.now).bytes) }
 {
     let done = interleave::interleave(payload);
@@ -163,8 +156,7 @@ pub extern "C" fn m17_interleave(payload: &[u8], out: &mut [u8]) -> u8
     give(answer, &bytes, out)
 }
 
-#[unsafe(no_mangle)]
-pub extern "C" fn m17_golay_encode(value: u16, out: &mut u32) -> u8
+pub fn m17_golay_encode(value: u16, out: &mut u32) -> u8
     ensures { (result ≡ number_of_codeword (encoded_of value)) × (out.new ≡ word_given (encoded_of value) out.old) }
 {
     match golay::encode(value) {
@@ -176,8 +168,7 @@ pub extern "C" fn m17_golay_encode(value: u16, out: &mut u32) -> u8
     }
 }
 
-#[unsafe(no_mangle)]
-pub extern "C" fn m17_golay_decode(word: u32, out: &mut u16) -> u8
+pub fn m17_golay_decode(word: u32, out: &mut u16) -> u8
     ensures { (result ≡ number_of_reading (decoded_of word)) × (out.new ≡ data_given (decoded_of word) out.old) }
 {
     match golay::decode(word) {
@@ -230,13 +221,7 @@ fn give_address(read: address::Reading, kind: &mut u8, value: &mut u64, out: &mu
     }
 }
 
-#[unsafe(no_mangle)]
-pub extern "C" fn m17_decode_address(
-    encoded: &[u8],
-    kind: &mut u8,
-    value: &mut u64,
-    callsign: &mut [u8],
-) -> u8
+pub fn m17_decode_address(encoded: &[u8], kind: &mut u8, value: &mut u64, callsign: &mut [u8]) -> u8
     ensures { (result ≡ number_of_heard (heard_into callsign.old (addressReadOf encoded.now).answer)) × (kind.new ≡ heard_given address_kind (heard_into callsign.old (addressReadOf encoded.now).answer) kind.old) × (value.new ≡ heard_given reserved_of (heard_into callsign.old (addressReadOf encoded.now).answer) value.old) × (callsign.new ≡ characters_given (heard_into callsign.old (addressReadOf encoded.now).answer) (addressReadOf encoded.now).callsign callsign.old) }
 {
     give_address(address::decode_address(encoded), kind, value, callsign)
@@ -277,8 +262,7 @@ fn written_address(kind: u8, value: u64, callsign: &[u8]) -> Written
     address::encode_address(address_for(kind, value), callsign)
 }
 
-#[unsafe(no_mangle)]
-pub extern "C" fn m17_encode_address(kind: u8, value: u64, callsign: &[u8], out: &mut [u8]) -> u8
+pub fn m17_encode_address(kind: u8, value: u64, callsign: &[u8], out: &mut [u8]) -> u8
     ensures { (result ≡ lent_said 6 out.old (address_written_of kind value callsign.now).answer) × (out.new ≡ lent_bytes 6 out.old (address_written_of kind value callsign.now).answer (address_written_of kind value callsign.now).bytes) }
 {
     let done = written_address(kind, value, callsign);
@@ -323,8 +307,7 @@ fn read(kind: u8, received: &[u8]) -> Decoded
     fec::decode(kind_for(kind), received)
 }
 
-#[unsafe(no_mangle)]
-pub extern "C" fn m17_fec_encode(kind: u8, plain: &[u8], out: &mut [u8]) -> u8
+pub fn m17_fec_encode(kind: u8, plain: &[u8], out: &mut [u8]) -> u8
     ensures { (result ≡ lent_said 46 out.old (coded_of kind plain.now).answer) × (out.new ≡ lent_bytes 46 out.old (coded_of kind plain.now).answer (coded_of kind plain.now).bytes) }
 {
     let done = coded(kind, plain);
@@ -333,8 +316,7 @@ pub extern "C" fn m17_fec_encode(kind: u8, plain: &[u8], out: &mut [u8]) -> u8
     give(answer, &bytes, out)
 }
 
-#[unsafe(no_mangle)]
-pub extern "C" fn m17_fec_decode(kind: u8, received: &[u8], out: &mut [u8]) -> u8
+pub fn m17_fec_decode(kind: u8, received: &[u8], out: &mut [u8]) -> u8
     ensures { (result ≡ lent_said 30 out.old (kind_read_of kind received.now).answer) × (out.new ≡ lent_bytes 30 out.old (kind_read_of kind received.now).answer (kind_read_of kind received.now).bytes) }
 {
     let done = read(kind, received);

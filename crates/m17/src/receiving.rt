@@ -141,15 +141,13 @@ fn cross(state: M17Receiver, got: Received) -> M17Received
     }
 }
 
-#[unsafe(no_mangle)]
-pub extern "C" fn m17_receiver_new() -> M17Receiver
+pub fn m17_receiver_new() -> M17Receiver
     ensures { result ≡ state_for (receiver_for idle) }
 {
     state_for(Receiver::new())
 }
 
-#[unsafe(no_mangle)]
-pub extern "C" fn m17_receive(state: M17Receiver, slot: &[u8], memory: &mut [u8]) -> M17Received
+pub fn m17_receive(state: M17Receiver, slot: &[u8], memory: &mut [u8]) -> M17Received
     ensures { (result ≡ crossed state (received_of (held_by state) slot.now memory.old)) × (memory.new ≡ memory_of (held_by state) slot.now memory.old) }
 {
     let parts = state.parts;

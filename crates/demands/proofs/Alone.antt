@@ -52,11 +52,13 @@ body_number v w e long (inl z) = absurd (some_number w (sym (ap said_of e) ∙ z
 body_number v w e long (inr (inl z)) = absurd (long z)
 body_number v w e long (inr (inr (inl z))) = inl (sym (ap said_of e) ∙ z)
 body_number v w e long (inr (inr (inr (inl z)))) = inr (inl (sym (ap said_of e) ∙ z))
+body_number v w e long (inr (inr (inr (inr x)))) = elim x [ ]
 
 three_is : (n : ℕ) → OneOf n (0 ∷ 1 ∷ 3 ∷ []) → OneOf n (0 ∷ 1 ∷ 3 ∷ 4 ∷ [])
 three_is n (inl z) = inl z
 three_is n (inr (inl z)) = inr (inl z)
 three_is n (inr (inr (inl z))) = inr (inr (inl z))
+three_is n (inr (inr (inr x))) = elim x [ ]
 
 header_number : (v : Verdict) (h : List ℕ) (w : Refusal) → (said_of v ≡ 1 → ⊥) → OneOf (said_of v) (0 ∷ 1 ∷ 3 ∷ []) → header_by v h ≡ unread w → Alone (number_of w)
 header_number Done h w long only e = by e
@@ -112,3 +114,4 @@ not_alone x w long over e = small (unread_number x w long e)
     small (inr (inl q)) = omega arith
     small (inr (inr (inl q))) = omega arith
     small (inr (inr (inr (inl q)))) = omega arith
+    small (inr (inr (inr (inr q)))) = elim q [ ]

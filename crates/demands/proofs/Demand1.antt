@@ -222,6 +222,7 @@ wider n (inl e) = inl e
 wider n (inr (inl e)) = inr (inl e)
 wider n (inr (inr (inl e))) = inr (inr (inl e))
 wider n (inr (inr (inr (inl e)))) = inr (inr (inr (inl e)))
+wider n (inr (inr (inr (inr x)))) = elim x [ ]
 
 -- a final piece
 verdict_number : (n len sum : ℕ) (w : Refusal) → step.verdict n len sum ≡ Refused w → OfSlot (number_of w)
@@ -311,6 +312,7 @@ module _ (r : Receiver) (x m : List ℕ) where
       one (inr (inr (inr (inr (inr (inl e)))))) = omega arith
       one (inr (inr (inr (inr (inr (inr (inl e))))))) = omega arith
       one (inr (inr (inr (inr (inr (inr (inr (inl e)))))))) = omega arith
+      one (inr (inr (inr (inr (inr (inr (inr (inr x)))))))) = elim x [ ]
 
   receiver_12 : ((received_of r x m).answer ≡ Answers.Refused BadState → (fits x m ≡ true) × (within r.phase ≡ false))
       × ((fits x m ≡ true) × (within r.phase ≡ false) → (received_of r x m).answer ≡ Answers.Refused BadState)
@@ -329,6 +331,7 @@ module _ (r : Receiver) (x m : List ℕ) where
       twelve (inr (inr (inr (inr (inr (inl e)))))) = omega arith
       twelve (inr (inr (inr (inr (inr (inr (inl e))))))) = omega arith
       twelve (inr (inr (inr (inr (inr (inr (inr (inl e)))))))) = omega arith
+      twelve (inr (inr (inr (inr (inr (inr (inr (inr x)))))))) = elim x [ ]
 
   receiver_untouched : (why : Refusal) → (received_of r x m).answer ≡ Answers.Refused why → memory_of r x m ≡ m
   receiver_untouched why =

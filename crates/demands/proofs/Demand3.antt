@@ -17,12 +17,10 @@ use Rattle.automaton.proofs.Demand3.{over_seen}
 use Rattle.receiver.specs.declared.Phase.TheVariants.{Idle, Gathering}
 use Rattle.receiver.specs.declared.Receiver.{Receiver}
 use Rattle.receiver.specs.declared.Late.TheVariants as Lates
-use Rattle.receiver.specs.declared.Answer.{Answer}
 use Rattle.receiver.specs.declared.Answer.TheVariants as Answers
 use Rattle.receiver.specs.See.{see}
 use Rattle.receiver.specs.Receiver.{state_of, within, fits, answer_for, header_for, received_from, taken, received_of, memory_of}
 use Rattle.receiver.specs.Runs.{Fed, start, ◌▹◌, ◌▹▹◌, Held, after, Heard, heard, seen_of}
-use Rattle.demands.specs.Frames.{Header}
 use Rattle.demands.specs.Slots.{HeaderSlot}
 use Rattle.demands.specs.Demand3.{Demand3}
 use Rattle.demands.proofs.AsSeen.{sound, all_sound, after_is, heard_for, heard_is, heard_none}

@@ -40,7 +40,6 @@ use Rattle.automaton.proofs.Demand3.{over_seen}
 use Rattle.receiver.specs.declared.Receiver.{Receiver}
 use Rattle.receiver.specs.declared.Late.{Late}
 use Rattle.receiver.specs.declared.Late.TheVariants as Lates
-use Rattle.receiver.specs.declared.Answer.{Answer}
 use Rattle.receiver.specs.declared.Answer.TheVariants as Answers
 use Rattle.receiver.specs.See.{header_by, header_seen, seen_stream, stream_by, stream_seen, packet_by, packet_seen, see}
 use Rattle.receiver.specs.Receiver.{within, no_header, no_stream, fits, late_for, answer_for, header_for, stream_for, unchanged, received_of, memory_of}

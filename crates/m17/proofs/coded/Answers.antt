@@ -1,6 +1,5 @@
 -- `m17::coded` meets its contract. Assumes nothing.
 use mathlib.Core.Path.{ap, ◌∙◌}
-use borrow.Author.Rules.{rules}
 use borrow.Author.Tests.{lt-ltb, le-ltb}
 use Rattle.fec.specs.declared.Kind.{Kind}
 use Rattle.fec.specs.Kinds.{encoded_of}

@@ -5,7 +5,6 @@ use borrow.Author.Tests.{eq-eqb, ne_eqb, lt-ltb, le-ltb}
 use Rattle.address.specs.declared.Address.{Address}
 use Rattle.address.specs.Address.{encoded_of}
 use Rattle.m17.specs.Addresses.{address_written_of}
-use borrow.Author.Rules.{rules}
 use Rattle.m17.proofs.written_address.Goals as goal
 
 pub returns-then-callsign-ne9 : goal.returns-then-callsign-ne9

@@ -4,7 +4,6 @@ use borrow.Author.Tests.{eq-eqb, ne_eqb, lt-ltb, le-ltb}
 use Rattle.fec.specs.declared.Kind.{Kind}
 use Rattle.encode.specs.Symbols.{body_symbols_of}
 use Rattle.m17.specs.Frames.{framed_of}
-use borrow.Author.Rules.{rules}
 use Rattle.m17.proofs.frames.framed.Goals as goal
 
 pub returns-then-body-ne46 : goal.returns-then-body-ne46

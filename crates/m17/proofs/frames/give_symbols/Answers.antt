@@ -1,11 +1,9 @@
 -- `m17::frames::give_symbols` meets its contract. Assumes nothing.
 use mathlib.Core.Path.{refl, sym, ◌∙◌}
-use Prim.Native.Nat.{◌-◌, ◌≤◌}
 use native.Mathlib.Omega.{arith}
 use lib.Ieee.{nan}
-use lib.ListN.{get_or}
-use Rattle.laws.proofs.Values.{Filled, filled_none, filled_more, filled_all, tabled_only}
-use Rattle.m17.proofs.Lent.{when_wrong, when_refused, when_done}
+use Rattle.laws.proofs.Values.{filled_all, tabled_only}
+use Rattle.m17.proofs.Lent.{when_done}
 use borrow.Author.Rules.{rules}
 use Rattle.m17.proofs.frames.give_symbols.Goals as goal
 

@@ -1,6 +1,5 @@
 -- `m17::frames::m17_encode_lsf` meets its contract. Assumes nothing.
 use Rattle.m17.proofs.Memory.{lsf_sent}
-use borrow.Author.Rules.{rules}
 use Rattle.m17.proofs.frames.m17_encode_lsf.Goals as goal
 
 pub returns : goal.returns

@@ -3,7 +3,6 @@ use mathlib.Core.Path.{ap, ◌∙◌}
 use Rattle.protocol.specs.declared.PacketFrameCounter.{PacketFrameCounter}
 use Rattle.encode.specs.Bodies.{packet_body_of}
 use Rattle.m17.proofs.Memory.{packet_sent}
-use borrow.Author.Rules.{rules}
 use Rattle.m17.proofs.frames.m17_encode_packet.Goals as goal
 
 pub returns : goal.returns

@@ -1,6 +1,5 @@
 -- `m17::gathered::flag_bytes` meets its contract. Assumes nothing.
 use Rattle.laws.specs.Tabled.{values_from}
-use borrow.Author.Rules.{rules}
 use Rattle.m17.proofs.gathered.flag_bytes.Goals as goal
 
 pub returns : goal.returns

@@ -1,6 +1,5 @@
 -- `m17::gathered::flags_of` meets its contract. Assumes nothing.
 use Rattle.laws.specs.Tabled.{values_from}
-use borrow.Author.Rules.{rules}
 use Rattle.m17.proofs.gathered.flags_of.Goals as goal
 
 pub returns : goal.returns

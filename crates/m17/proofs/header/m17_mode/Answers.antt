@@ -5,7 +5,6 @@ use Rattle.protocol.specs.Fields.{mode_bits, field}
 use Rattle.m17.specs.Header.{thirty}
 use Rattle.m17.proofs.Lent.{number_given_lem}
 use Rattle.m17.proofs.Setting.{field_read}
-use borrow.Author.Rules.{rules}
 use Rattle.m17.proofs.header.m17_mode.Goals as goal
 
 pub returns : goal.returns

@@ -6,7 +6,6 @@ use Rattle.m17.specs.Addresses.{address_written_of}
 use Rattle.m17.specs.Header.{with_address}
 use Rattle.m17.proofs.Lent.{known}
 use Rattle.m17.proofs.Setting.{address_set}
-use borrow.Author.Rules.{rules}
 use Rattle.m17.proofs.header.m17_set_destination.Goals as goal
 
 pub returns : goal.returns

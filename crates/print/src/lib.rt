@@ -1,11 +1,12 @@
-// What the programs share: bytes put into a buffer one after another, and text, numbers and bytes on standard output. Nothing can be
-// promised of what goes out.
+// What the programs share: bytes put into a buffer one after another, and text, numbers and bytes on a writer, which is standard output.
+// Nothing can be promised of what goes out.
 #![tactic(auto)]
 
 ghost use Rattle.std.specs.Prelude.{◌+◌, ◌≡◌};
 ghost use Rattle.print.specs.Appended.{room_for, appended};
 
-use libc::STDOUT_FILENO;
+use std::io;
+use std::io::Write;
 
 // `s` is put into `to` from place `at` on. What finds no room is left out. Answers the place behind it.
 pub fn append(to: &mut [u8], at: usize, s: &[u8]) -> usize
@@ -22,17 +23,18 @@ pub fn append(to: &mut [u8], at: usize, s: &[u8]) -> usize
     at + n
 }
 
-pub fn text(s: &[u8]) {
-    io::write_all(STDOUT_FILENO, s);
+pub fn text<W: Write>(out: &mut W, s: &[u8]) -> io::Result<()> {
+    out.write_all(s)
 }
 
-pub fn decimal(n: u64) {
-    io::print_decimal(STDOUT_FILENO, n);
+pub fn decimal<W: Write>(out: &mut W, n: u64) -> io::Result<()> {
+    write!(out, "{n}")
 }
 
-// With zeros in front, up to so many digits.
-pub fn hex(n: u64, width: usize) {
-    io::print_hex(STDOUT_FILENO, n, width);
+// With zeros in front, up to so many digits, and at most to 16.
+pub fn hex<W: Write>(out: &mut W, n: u64, width: usize) -> io::Result<()> {
+    let width = width.min(16);
+    write!(out, "{n:0width$x}")
 }
 
 fn wide(x: u8) -> u64 {
@@ -40,9 +42,10 @@ fn wide(x: u8) -> u64 {
 }
 
 // A space, and two digits for each byte.
-pub fn bytes(s: &[u8]) {
-    text(b" ");
+pub fn bytes<W: Write>(out: &mut W, s: &[u8]) -> io::Result<()> {
+    text(out, b" ")?;
     for i in 0..s.len() {
-        hex(wide(s[i]), 2);
+        hex(out, wide(s[i]), 2)?;
     }
+    Ok(())
 }

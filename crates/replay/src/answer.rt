@@ -5,7 +5,7 @@ use refusal::Verdict;
 const ROOM: usize = 64;
 
 // The first `len` of the bytes: 0 or a refusal's number, then the fields. What finds no room is left out.
-#[derive(Drop)]
+#[derive(Clone, Copy)]
 pub struct Answer {
     bytes: [u8; 64],
     len: usize,

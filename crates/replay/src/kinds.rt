@@ -1,17 +1,19 @@
 // The nine kinds of records, numbered as in the file.
 use print::text;
+use std::io;
+use std::io::Write;
 
-pub fn name(kind: u8) {
+pub fn name<W: Write>(out: &mut W, kind: u8) -> io::Result<()> {
     match kind {
-        0 => text(b"header read"),
-        1 => text(b"stream read"),
-        2 => text(b"packet read"),
-        3 => text(b"header written"),
-        4 => text(b"stream written"),
-        5 => text(b"packet written"),
-        6 => text(b"address read"),
-        7 => text(b"address written"),
-        _ => text(b"header set"),
+        0 => text(out, b"header read"),
+        1 => text(out, b"stream read"),
+        2 => text(out, b"packet read"),
+        3 => text(out, b"header written"),
+        4 => text(out, b"stream written"),
+        5 => text(out, b"packet written"),
+        6 => text(out, b"address read"),
+        7 => text(out, b"address written"),
+        _ => text(out, b"header set"),
     }
 }
 

@@ -11,33 +11,27 @@ mod kinds;
 mod records;
 mod replayed;
 
-use libc::STDERR_FILENO;
 use replayed::replay;
+use std::io::{BufReader, BufWriter, Write};
+use std::rt::Runtime;
+use std::{env, fs, io};
 
-fn replay_file(path: &[u8]) {
-    let fd = os::open_read(path);
-    if fd < 0 {
-        os::fail(path);
-        return;
-    }
-    replay(fd);
-    libc::close(fd);
+fn replay_file(rt: &impl Runtime, path: &str) -> io::Result<()> {
+    let mut answers = BufReader::new(rt.alloc(), fs::open(rt, path)?)?;
+    let mut out = BufWriter::new(rt.alloc(), io::writer(rt))?;
+    replay(&mut answers, &mut out)?;
+    out.flush()
 }
 
-fn replay_named() {
-    let mut path = io::buffer();
-    let n = os::arg(1, &mut path);
-    if os::errno() != 0 {
-        os::fail(b"the file's name");
-        return;
+fn replay_named(rt: &impl Runtime, named: Option<String>) -> io::Result<()> {
+    match named {
+        Some(path) => replay_file(rt, path.as_str()),
+        None => eprintln!(rt; "usage: replay ANSWERS"),
     }
-    replay_file(&path[..n]);
 }
 
-fn main() {
-    if os::arg_count() == 2 {
-        replay_named();
-        return;
-    }
-    io::write_all(STDERR_FILENO, b"usage: replay ANSWERS\n");
+fn main(rt: HostRuntime) -> io::Result<()> {
+    let mut args = env::args(&rt)?;
+    let named = if args.len() == 2 { args.nth(1) } else { None };
+    replay_named(&rt, named)
 }

@@ -1,6 +1,8 @@
 // A line of text that is put together and then written at once.
 use crate::part::{before_spaces, within};
-use libc::STDOUT_FILENO;
+use std::fmt::Write as _;
+use std::io::Write;
+use std::{fmt, io};
 
 const DIGITS: [u8; 16] = *b"0123456789abcdef";
 
@@ -12,7 +14,7 @@ pub struct Line {
 }
 
 // How a byte is shown.
-#[derive(Drop)]
+#[derive(Clone, Copy)]
 enum Shown {
     Digits,
     Printable,
@@ -33,9 +35,17 @@ fn printable(c: u8) -> u8 {
     c
 }
 
-fn write_first(bytes: [u8; 2048], len: usize) -> bool {
+fn write_first<W: Write>(out: &mut W, bytes: [u8; 2048], len: usize) -> io::Result<()> {
     let n = within(len, &bytes);
-    io::write_all(STDOUT_FILENO, &bytes[..n])
+    out.write_all(&bytes[..n])
+}
+
+// So that std writes numbers into a line.
+impl fmt::Write for Line {
+    fn write_str(&mut self, s: &str) -> fmt::Result {
+        self.len = print::append(&mut self.bytes, self.len, s.as_bytes());
+        Ok(())
+    }
 }
 
 impl Line {
@@ -87,9 +97,9 @@ impl Line {
     }
 
     pub fn decimal(self, n: u64) -> Line {
-        let mut digits = [0u8; 20];
-        let k = io::decimal(n, &mut digits);
-        self.text(&digits[..k])
+        let mut line = self;
+        let _ = write!(line, "{n}");
+        line
     }
 
     // Four digits or more.
@@ -108,16 +118,16 @@ impl Line {
 
     // Twelve hexadecimal digits or more.
     pub fn twelve_digits(self, n: u64) -> Line {
-        let mut digits = [0u8; 16];
-        let k = io::hex(n, 12, &mut digits);
-        self.text(&digits[..k])
+        let mut line = self;
+        let _ = write!(line, "{n:012x}");
+        line
     }
 
-    // Writes the line and its end, and says whether all of it went.
-    pub fn write(self) -> bool {
+    // Writes the line and its end.
+    pub fn write<W: Write>(self, out: &mut W) -> io::Result<()> {
         let line = self.text(b"\n");
         let bytes = line.bytes;
         let len = line.len;
-        write_first(bytes, len)
+        write_first(out, bytes, len)
     }
 }

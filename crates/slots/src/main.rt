@@ -22,6 +22,9 @@
 // An address is "callsign" and its characters, "reserved" and its number, "broadcast" or "invalid". A packet has two lines, packet and
 // text; a stream slot has a second line, late or spoiled, where it is the sixth of six parts. The last line has no slot's number: it is
 // "summary: " with the counts of slots, headers, packets and late headers (late), and of each refusal that came (refused-N).
+//
+// The exit status is 0 where the recording was read to its end; 1 where it could not be read or a line could not be written, and standard
+// error says why; 2 for more than one argument.
 #![tactic(auto)]
 
 mod answers;
@@ -31,35 +34,48 @@ mod recording;
 mod tally;
 mod words;
 
-use libc::{STDERR_FILENO, STDIN_FILENO};
-use recording::read_recording;
+use recording::{Failure, read_recording};
+use std::env::{Env, FillError};
+use std::io::Read;
+use std::process::ExitCode;
+use std::rt::Runtime;
+use std::{env, fs, io};
 
-fn read_file(path: &[u8]) {
-    let fd = os::open_read(path);
-    if fd < 0 {
-        os::fail(path);
-        return;
-    }
-    read_recording(fd, path);
-    libc::close(fd);
+// Says on standard error what failed and why.
+fn fail(rt: &impl Runtime, what: &str, why: io::Error) -> ExitCode {
+    let _ = eprintln!(rt; "{what}: {why}");
+    ExitCode::FAILURE
 }
 
-fn read_named() {
-    let mut path = io::buffer();
-    let n = os::arg(1, &mut path);
-    if os::errno() != 0 {
-        os::fail(b"the file's name");
-        return;
+fn read_input<I: Read>(rt: &impl Runtime, input: &mut I, name: &str) -> ExitCode {
+    match read_recording(input, &mut io::writer(rt)) {
+        Ok(()) => ExitCode::SUCCESS,
+        Err(Failure::Input(why)) => fail(rt, name, why),
+        Err(Failure::Output(why)) => fail(rt, "standard output", why),
     }
-    read_file(&path[..n]);
 }
 
-fn main() {
-    match os::arg_count() {
-        0 | 1 => read_recording(STDIN_FILENO, b"standard input"),
-        2 => read_named(),
-        _ => {
-            io::write_all(STDERR_FILENO, b"usage: slots [RECORDING]\n");
-        }
+fn read_file(rt: &impl Runtime, path: &str) -> ExitCode {
+    match fs::open(rt, path) {
+        Ok(mut file) => read_input(rt, &mut file, path),
+        Err(why) => fail(rt, path, why),
+    }
+}
+
+fn read_named(rt: &impl Runtime, named: Option<String>) -> ExitCode {
+    match named {
+        Some(path) => read_file(rt, path.as_str()),
+        None => read_input(rt, &mut rt.reader(), "standard input"),
+    }
+}
+
+fn main(rt: HostRuntime) -> ExitCode {
+    if !matches!(rt.arg(2, &mut []), Err(FillError::NotPresent)) {
+        let _ = eprintln!(rt; "usage: slots [RECORDING]");
+        return ExitCode::from(2);
+    }
+    match env::args(&rt) {
+        Ok(mut args) => read_named(&rt, args.nth(1)),
+        Err(why) => fail(&rt, "the file's name", why),
     }
 }

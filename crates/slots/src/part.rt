@@ -1,9 +1,10 @@
 // How much of a slice is meant.
-ghost use Rattle.io.specs.Counts.{IsPrefixLen};
+ghost use Rattle.std.specs.Prelude.{◌≡◌, ◌≤◌, length, take};
 
 // `n`, or the slice's length where that is less.
 pub fn within(n: usize, s: &[u8]) -> usize
-    ensures { IsPrefixLen result s.now }
+    ensures in_bounds { result ≤ length s.now }
+    ensures value { result ≡ length (take result s.now) }
 {
     if n < s.len() {
         return n;

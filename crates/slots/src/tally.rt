@@ -4,7 +4,7 @@ use receiver::{Answer, Late};
 use refusal::Refusal;
 
 // Place n of `refused` counts the refusals of number n.
-#[derive(Drop)]
+#[derive(Clone, Copy)]
 pub struct Tally {
     slots: u64,
     headers: u64,

@@ -1,6 +1,7 @@
 // Scripts of slots, each fed to one receiver from its start, from the compiled code. What it writes is held to the file stdout, which
 // expected.py beside it made from document 01 alone.
 #![tactic(auto)]
+
 mod damage;
 mod packets;
 mod run;
@@ -9,9 +10,15 @@ mod slots;
 mod states;
 mod streams;
 
-fn main() {
-    packets::all();
-    damage::all();
-    streams::all();
-    states::all();
+use std::io;
+use std::io::{BufWriter, Write};
+
+fn main(rt: HostRuntime) -> io::Result<()> {
+    let mut buffer = BufWriter::new(rt.alloc(), io::writer(&rt))?;
+    let out = &mut buffer;
+    packets::all(out)?;
+    damage::all(out)?;
+    streams::all(out)?;
+    states::all(out)?;
+    out.flush()
 }

@@ -2,15 +2,17 @@
 use print::{bytes, text};
 use protocol::StreamFrame;
 use receiver::{Answer, Late, Phase, Receiver};
+use std::io;
+use std::io::Write;
 
 fn wide(x: u8) -> u64 {
     x as u64
 }
 
 // A word and a number.
-pub fn counted(label: &[u8], n: usize) {
-    text(label);
-    print::decimal(n as u64);
+pub fn counted<W: Write>(out: &mut W, label: &[u8], n: usize) -> io::Result<()> {
+    text(out, label)?;
+    print::decimal(out, n as u64)
 }
 
 fn blank(s: &[u8]) -> bool {
@@ -25,99 +27,112 @@ fn blank(s: &[u8]) -> bool {
 }
 
 // Bytes that are to be zeros show only where they are not.
-fn unless_blank(s: &[u8]) {
+fn unless_blank<W: Write>(out: &mut W, s: &[u8]) -> io::Result<()> {
     if !blank(s) {
-        bytes(s);
+        bytes(out, s)?;
     }
+    Ok(())
 }
 
 // The packet that memory begins with.
-fn packet(memory: &[u8], total: usize) {
-    counted(b"packet of ", total);
+fn packet<W: Write>(out: &mut W, memory: &[u8], total: usize) -> io::Result<()> {
+    counted(out, b"packet of ", total)?;
     if total <= memory.len() {
-        bytes(&memory[..total]);
+        bytes(out, &memory[..total])?;
     }
+    Ok(())
 }
 
-fn fields(stream: StreamFrame) {
+fn fields<W: Write>(out: &mut W, stream: StreamFrame) -> io::Result<()> {
     let part = stream.lich_part;
     let content = stream.stream_data;
-    print::decimal(wide(stream.lich_idx));
-    bytes(&part);
-    text(b" number ");
-    print::hex(stream.frame_number as u64, 4);
-    bytes(&content);
+    print::decimal(out, wide(stream.lich_idx))?;
+    bytes(out, &part)?;
+    text(out, b" number ")?;
+    print::hex(out, stream.frame_number as u64, 4)?;
+    bytes(out, &content)?;
     if stream.end_of_stream {
-        text(b" last");
+        text(out, b" last")?;
     }
+    Ok(())
 }
 
-fn late(brings: Late, header: [u8; 30]) {
+fn late<W: Write>(out: &mut W, brings: Late, header: [u8; 30]) -> io::Result<()> {
     match brings {
         Late::Nothing => {}
         Late::Header => {
-            text(b" late header");
-            bytes(&header);
+            text(out, b" late header")?;
+            bytes(out, &header)?;
         }
-        Late::Spoiled => text(b" spoiled"),
+        Late::Spoiled => text(out, b" spoiled")?,
     }
+    Ok(())
 }
 
 // An answer that carries no header and no stream fields.
-fn plain(said: Answer, memory: &[u8]) {
+fn plain<W: Write>(out: &mut W, said: Answer, memory: &[u8]) -> io::Result<()> {
     match said {
-        Answer::Stored(n) => counted(b"stored ", n),
-        Answer::Packet(total) => packet(memory, total),
-        Answer::Ended => text(b"end"),
+        Answer::Stored(n) => counted(out, b"stored ", n)?,
+        Answer::Packet(total) => packet(out, memory, total)?,
+        Answer::Ended => text(out, b"end")?,
         Answer::Refused(why) => {
-            text(b"refused ");
-            print::decimal(wide(refusal::number(why)));
+            text(out, b"refused ")?;
+            print::decimal(out, wide(refusal::number(why)))?;
         }
         _ => {}
     }
+    Ok(())
 }
 
-pub fn answer(said: Answer, header: [u8; 30], stream: StreamFrame, memory: &[u8]) {
-    text(b": ");
+pub fn answer<W: Write>(
+    out: &mut W,
+    said: Answer,
+    header: [u8; 30],
+    stream: StreamFrame,
+    memory: &[u8],
+) -> io::Result<()> {
+    text(out, b": ")?;
     match said {
         Answer::Header => {
-            text(b"header");
-            bytes(&header);
+            text(out, b"header")?;
+            bytes(out, &header)?;
         }
         Answer::Stream(brings) => {
-            text(b"fields ");
-            fields(stream);
-            late(brings, header);
+            text(out, b"fields ")?;
+            fields(out, stream)?;
+            late(out, brings, header)?;
         }
         _ => {
-            plain(said, memory);
-            unless_blank(&header);
+            plain(out, said, memory)?;
+            unless_blank(out, &header)?;
             let part = stream.lich_part;
-            unless_blank(&part);
+            unless_blank(out, &part)?;
             let content = stream.stream_data;
-            unless_blank(&content);
+            unless_blank(out, &content)?;
         }
     }
+    Ok(())
 }
 
-pub fn state(next: Receiver) {
+pub fn state<W: Write>(out: &mut W, next: Receiver) -> io::Result<()> {
     let phase = next.phase;
     let parts = next.parts;
-    text(b" | ");
+    text(out, b" | ")?;
     match phase {
         Phase::Idle => {
-            text(b"idle");
-            unless_blank(&parts);
+            text(out, b"idle")?;
+            unless_blank(out, &parts)?;
         }
         Phase::Packet(n) => {
-            counted(b"packet ", n);
-            unless_blank(&parts);
+            counted(out, b"packet ", n)?;
+            unless_blank(out, &parts)?;
         }
         Phase::Gathering(k) => {
-            counted(b"gathering ", k);
-            bytes(&parts);
+            counted(out, b"gathering ", k)?;
+            bytes(out, &parts)?;
         }
     }
+    Ok(())
 }
 
 fn differs(old: &[u8], new: &[u8], place: usize) -> bool {
@@ -153,13 +168,14 @@ fn last(old: &[u8], new: &[u8]) -> usize {
 }
 
 // Which places of memory changed: the first and the last, or a dash.
-pub fn changes(old: &[u8], new: &[u8]) {
+pub fn changes<W: Write>(out: &mut W, old: &[u8], new: &[u8]) -> io::Result<()> {
     let from = first(old, new);
     if from < new.len() {
-        counted(b" | ", from);
-        counted(b" to ", last(old, new));
-        text(b"\n");
+        counted(out, b" | ", from)?;
+        counted(out, b" to ", last(old, new))?;
+        text(out, b"\n")?;
     } else {
-        text(b" | -\n");
+        text(out, b" | -\n")?;
     }
+    Ok(())
 }

@@ -12,9 +12,17 @@ mod records;
 mod replayed;
 
 use replayed::replay;
+use std::env::{Env, FillError};
 use std::io::{BufReader, BufWriter, Write};
+use std::process::ExitCode;
 use std::rt::Runtime;
-use std::{env, fs, io};
+use std::{fs, io, str};
+
+// Says on standard error what failed and why.
+fn fail(rt: &impl Runtime, what: &str, why: io::Error) -> ExitCode {
+    let _ = eprintln!(rt; "{what}: {why}");
+    ExitCode::FAILURE
+}
 
 fn replay_file(rt: &impl Runtime, path: &str) -> io::Result<()> {
     let mut answers = BufReader::new(rt.alloc(), fs::open(rt, path)?)?;
@@ -23,15 +31,38 @@ fn replay_file(rt: &impl Runtime, path: &str) -> io::Result<()> {
     out.flush()
 }
 
-fn replay_named(rt: &impl Runtime, named: Option<String>) -> io::Result<()> {
-    match named {
-        Some(path) => replay_file(rt, path.as_str()),
-        None => eprintln!(rt; "usage: replay ANSWERS"),
+// Today's library opens a file by a name that is text.
+fn replay_named(rt: &impl Runtime, name: &[u8]) -> ExitCode {
+    match str::from_utf8(name) {
+        Ok(path) => match replay_file(rt, path) {
+            Ok(()) => ExitCode::SUCCESS,
+            Err(why) => fail(rt, path, why),
+        },
+        Err(_) => fail(
+            rt,
+            "the file's name",
+            io::Error::from(io::ErrorKind::InvalidData),
+        ),
     }
 }
 
-fn main(rt: HostRuntime) -> io::Result<()> {
-    let mut args = env::args(&rt)?;
-    let named = if args.len() == 2 { args.nth(1) } else { None };
-    replay_named(&rt, named)
+fn main(rt: HostRuntime) -> ExitCode {
+    let mut name = [0u8; 4096];
+    let named = rt.arg(1, &mut name);
+    if !matches!(rt.arg(2, &mut []), Err(FillError::NotPresent)) {
+        let _ = eprintln!(rt; "usage: replay ANSWERS");
+        return ExitCode::SUCCESS;
+    }
+    match named {
+        Ok(n) => replay_named(&rt, &name[..n]),
+        Err(FillError::NotPresent) => {
+            let _ = eprintln!(rt; "usage: replay ANSWERS");
+            ExitCode::SUCCESS
+        }
+        Err(_) => fail(
+            &rt,
+            "the file's name",
+            io::Error::from(io::ErrorKind::InvalidData),
+        ),
+    }
 }

@@ -39,7 +39,7 @@ use std::env::{Env, FillError};
 use std::io::Read;
 use std::process::ExitCode;
 use std::rt::Runtime;
-use std::{env, fs, io};
+use std::{fs, io, str};
 
 // Says on standard error what failed and why.
 fn fail(rt: &impl Runtime, what: &str, why: io::Error) -> ExitCode {
@@ -62,10 +62,15 @@ fn read_file(rt: &impl Runtime, path: &str) -> ExitCode {
     }
 }
 
-fn read_named(rt: &impl Runtime, named: Option<String>) -> ExitCode {
-    match named {
-        Some(path) => read_file(rt, path.as_str()),
-        None => read_input(rt, &mut rt.reader(), "standard input"),
+// Today's library opens a file by a name that is text.
+fn read_named(rt: &impl Runtime, name: &[u8]) -> ExitCode {
+    match str::from_utf8(name) {
+        Ok(path) => read_file(rt, path),
+        Err(_) => fail(
+            rt,
+            "the file's name",
+            io::Error::from(io::ErrorKind::InvalidData),
+        ),
     }
 }
 
@@ -74,8 +79,14 @@ fn main(rt: HostRuntime) -> ExitCode {
         let _ = eprintln!(rt; "usage: slots [RECORDING]");
         return ExitCode::from(2);
     }
-    match env::args(&rt) {
-        Ok(mut args) => read_named(&rt, args.nth(1)),
-        Err(why) => fail(&rt, "the file's name", why),
+    let mut name = [0u8; 4096];
+    match rt.arg(1, &mut name) {
+        Ok(n) => read_named(&rt, &name[..n]),
+        Err(FillError::NotPresent) => read_input(&rt, &mut rt.reader(), "standard input"),
+        Err(_) => fail(
+            &rt,
+            "the file's name",
+            io::Error::from(io::ErrorKind::InvalidData),
+        ),
     }
 }

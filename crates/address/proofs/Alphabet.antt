@@ -1,27 +1,19 @@
 -- The alphabet: 40 characters, each at one place, and what a search for a place passes. Assumes nothing.
 use mathlib.Core.Path.{◌≡◌, refl, sym, ap, ◌∙◌}
-use mathlib.Core.Bool.{Bool, true, false, cond, ◌&&◌}
+use mathlib.Core.Bool.{Bool, true, false, cond, not, ◌&&◌}
 use mathlib.Core.List.{List, [], ◌∷◌}
-use Prim.Native.Nat.{ℕ, zero, suc, ◌-◌, ◌≤◌, ◌<◌}
+use Prim.Native.Nat.{ℕ, zero, suc, ◌+◌, ◌-◌, ◌≤◌, ◌<◌}
 use native.Mathlib.Omega.{arith}
-use lib.Dec.{eqb, leb, eqb→eq}
-use lib.ListN.{length, get_or, drop}
-use lib.Seq.{drop-cons}
-use borrow.Author.Tests.{eqb-true, eq-eqb, ne_eqb, leb-true, le-leb, lt-leb}
+use lib.Dec.{eqb, ltb, leb, eqb→eq}
+use lib.ListN.{length, get_or}
+use borrow.Author.Tests.{eqb-true, eq-eqb, leb-true, le-leb, lt-leb, ltb-true, ltb-false}
+use Rattle.std.specs.List.{position_or_len}
+use Rattle.std.specs.Char.{to_ascii_uppercase}
 use Rattle.laws.proofs.Every.{every_at}
 use Rattle.address.specs.Callsign.{alphabet, character, upper, place_in, digit_of}
 use Rattle.address.specs.When.{InAlphabet}
 
 -- ---- the place of a byte in any list
-pub place_le : (l : List ℕ) (c : ℕ) → place_in l c ≤ length l
-unfolding place_in
-place_le [] c = omega arith
-place_le (x ∷ l) c = go (eqb x c) (place_le l c)
-  where
-    go : (b : Bool) → place_in l c ≤ length l → cond b 0 (suc (place_in l c)) ≤ suc (length l)
-    go true h = omega arith
-    go false h = omega arith
-
 -- what stands there is the byte
 pub at_place : (l : List ℕ) (c : ℕ) → place_in l c < length l → get_or l (place_in l c) 0 ≡ c
 unfolding place_in
@@ -44,18 +36,16 @@ place_first (x ∷ l) c (suc d) h e = go (eqb x c) (place_first l c d (omega ari
     go true h = omega arith
     go false h = omega arith
 
--- a search that stands at place i, and finds the byte there or goes on
-pub place_here : (l : List ℕ) (c i : ℕ) → i < length l → get_or l i 0 ≡ c → place_in (drop i l) c ≡ 0
+-- it is the first place at which std's search finds it
+pub place_position : (l : List ℕ) (c : ℕ) → place_in l c ≡ position_or_len (λ x. eqb x c) l
 unfolding place_in
-place_here l c i h e =
-    ap (λ (m : List ℕ). place_in m c) (drop-cons l i 0 h)
-    ∙ ap (λ (b : Bool). cond b 0 (suc (place_in (drop (suc i) l) c))) (eq-eqb (get_or l i 0) c e)
-
-pub place_further : (l : List ℕ) (c i : ℕ) → i < length l → (get_or l i 0 ≡ c → ⊥) → place_in (drop i l) c ≡ suc (place_in (drop (suc i) l) c)
-unfolding place_in
-place_further l c i h n =
-    ap (λ (m : List ℕ). place_in m c) (drop-cons l i 0 h)
-    ∙ ap (λ (b : Bool). cond b 0 (suc (place_in (drop (suc i) l) c))) (ne_eqb (get_or l i 0) c n)
+place_position [] c = refl
+place_position (x ∷ l) c = go (eqb x c) (place_position l c)
+  where
+    go : (b : Bool) → place_in l c ≡ position_or_len (λ x. eqb x c) l
+        → cond b 0 (suc (place_in l c)) ≡ cond (not b) (1 + position_or_len (λ x. eqb x c) l) 0
+    go true e = refl
+    go false e = omega arith
 
 -- ---- upper case
 pub upper_low : (c : ℕ) → c < 97 → upper c ≡ c
@@ -69,6 +59,16 @@ upper_high c h = simp (le-leb 97 c (omega arith), lt-leb c 122 h)
 pub upper_letter : (c : ℕ) → 97 ≤ c → c ≤ 122 → upper c ≡ c - 32
 unfolding upper
 upper_letter c l h = simp (le-leb 97 c l, le-leb c 122 h)
+
+-- std's upper case
+pub std_upper : (c : ℕ) → to_ascii_uppercase c ≡ upper c
+unfolding upper
+std_upper c = go (ltb c 97) (ltb c 123) refl refl
+  where
+    go : (a b : Bool) → ltb c 97 ≡ a → ltb c 123 ≡ b → cond a c (cond b (c - 32) c) ≡ upper c
+    go true b p q = sym (upper_low c (ltb-true c 97 p))
+    go false true p q = let h = ltb-true c 123 q in sym (upper_letter c (ltb-false c 97 p) (omega arith))
+    go false false p q = let h = ltb-false c 123 q in sym (upper_high c (omega arith))
 
 -- only the space is written as a space
 upper_space : (c : ℕ) → upper c ≡ 32 → c ≡ 32

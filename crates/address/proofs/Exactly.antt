@@ -1,6 +1,6 @@
 -- Each refusal comes exactly when the document says. Assumes nothing.
 use mathlib.Core.Path.{◌≡◌, refl, ap, ◌∙◌}
-use mathlib.Core.Bool.{Bool, true, false, cond, not, ◌&&◌, and-false}
+use mathlib.Core.Bool.{Bool, true, false, not, ◌&&◌, and-false}
 use mathlib.Core.Logic.{◌⊎◌, inl, inr, ⊎_elim}
 use mathlib.Core.List.{List, [], ◌∷◌}
 use Prim.Native.Nat.{ℕ, zero, suc, ◌<◌}
@@ -11,12 +11,8 @@ use borrow.Author.Tests.{eqb-true, eqb-false, eq-eqb, ltb-false, leb-false, lt-l
 use Rattle.refusal.specs.Number.{said_of}
 use Rattle.address.specs.declared.Address.{Address}
 use Rattle.address.specs.declared.Address.TheVariants.{Invalid, Callsign, Reserved, Broadcast}
-use Rattle.address.specs.declared.Heard.TheVariants.{Read}
-use Rattle.address.specs.declared.Reading.{Reading}
-use Rattle.address.specs.declared.Written.{Written}
-use Rattle.laws.specs.Value.{value_of}
-use Rattle.address.specs.Callsign.{callsign_of, digit_of, known, blank}
-use Rattle.address.specs.Address.{number_of_heard, without_callsign, address_of, decoded_of, writable, encoded_of}
+use Rattle.address.specs.Callsign.{digit_of, known, blank}
+use Rattle.address.specs.Address.{decoded_of, writable, encoded_of}
 use Rattle.address.specs.When.{Foreign, AllSpaces, Unwritable, ReadExactly, WrittenExactly}
 use Rattle.address.proofs.Alphabet.{digit_in, in_digit}
 use Rattle.address.proofs.Number.{both_true, known_at}
@@ -78,33 +74,18 @@ not_writable (Reserved v) s u =
 not_writable Broadcast s u = absurd u
 
 -- ---- the numbers
-every_value : (v : ℕ) → number_of_heard (address_of v).answer ≡ 0
-unfolding address_of
-every_value v = go (eqb v 0) (leb v 0xEE6B27FFFFFF) (leb v 0xFFFFFFFFFFFE)
-  where
-    go : (a b c : Bool)
-        → number_of_heard
-        (cond a (without_callsign (Read Invalid))
-        (cond b (record { answer = Read Callsign; callsign = callsign_of 9 v })
-        (cond c (without_callsign (Read (Reserved v))) (without_callsign (Read Broadcast))))).answer
-        ≡ 0
-    go true b c = refl
-    go false true c = refl
-    go false false true = refl
-    go false false false = refl
-
-pub read_exactly : (s : List ℕ) → ReadExactly s (number_of_heard (decoded_of s).answer)
+pub read_exactly : (s : List ℕ) → ReadExactly s (said_of (decoded_of s))
 read_exactly s =
     record {
       one_only = λ e h. omega (arith, answered h);
-      one_if = λ n. ap (λ (r : Reading). number_of_heard r.answer) (read_short s n);
+      one_if = λ n. ap said_of (read_short s n);
       read_if = answered;
     }
   where
-    answered : length s ≡ 6 → number_of_heard (decoded_of s).answer ≡ 0
-    answered h = ap (λ (r : Reading). number_of_heard r.answer) (read_six s h) ∙ every_value (value_of s)
+    answered : length s ≡ 6 → said_of (decoded_of s) ≡ 0
+    answered h = ap said_of (read_six s h)
 
-pub written_exactly : (a : Address) (s : List ℕ) → WrittenExactly a s (said_of (encoded_of a s).answer)
+pub written_exactly : (a : Address) (s : List ℕ) → WrittenExactly a s (said_of (encoded_of a s))
 written_exactly a s =
     record {
       one_only = λ e h. not_one h (writable a s) refl e;
@@ -114,24 +95,24 @@ written_exactly a s =
       done_if = λ h n. done h n (writable a s) refl;
     }
   where
-    said_one : (length s ≡ 9 → ⊥) → said_of (encoded_of a s).answer ≡ 1
-    said_one n = ap (λ (w : Written). said_of w.answer) (write_short a s n)
+    said_one : (length s ≡ 9 → ⊥) → said_of (encoded_of a s) ≡ 1
+    said_one n = ap said_of (write_short a s n)
 
-    said_six : length s ≡ 9 → writable a s ≡ false → said_of (encoded_of a s).answer ≡ 6
-    said_six h e = ap (λ (w : Written). said_of w.answer) (write_bad a s h e)
+    said_six : length s ≡ 9 → writable a s ≡ false → said_of (encoded_of a s) ≡ 6
+    said_six h e = ap said_of (write_bad a s h e)
 
-    said_none : length s ≡ 9 → writable a s ≡ true → said_of (encoded_of a s).answer ≡ 0
-    said_none h e = ap (λ (w : Written). said_of w.answer) (write_good a s h e)
+    said_none : length s ≡ 9 → writable a s ≡ true → said_of (encoded_of a s) ≡ 0
+    said_none h e = ap said_of (write_good a s h e)
 
-    not_one : length s ≡ 9 → (b : Bool) → writable a s ≡ b → said_of (encoded_of a s).answer ≡ 1 → ⊥
+    not_one : length s ≡ 9 → (b : Bool) → writable a s ≡ b → said_of (encoded_of a s) ≡ 1 → ⊥
     not_one h true w e = omega (arith, said_none h w)
     not_one h false w e = omega (arith, said_six h w)
 
-    six : (b w : Bool) → eqb (length s) 9 ≡ b → writable a s ≡ w → said_of (encoded_of a s).answer ≡ 6 → (length s ≡ 9) × Unwritable a s
+    six : (b w : Bool) → eqb (length s) 9 ≡ b → writable a s ≡ w → said_of (encoded_of a s) ≡ 6 → (length s ≡ 9) × Unwritable a s
     six true true p q e = absurd (omega (arith, said_none (eqb-true (length s) 9 p) q))
     six true false p q e = (eqb-true (length s) 9 p, unwritable a s q)
     six false w p q e = absurd (omega (arith, said_one (eqb-false (length s) 9 p)))
 
-    done : length s ≡ 9 → (Unwritable a s → ⊥) → (b : Bool) → writable a s ≡ b → said_of (encoded_of a s).answer ≡ 0
+    done : length s ≡ 9 → (Unwritable a s → ⊥) → (b : Bool) → writable a s ≡ b → said_of (encoded_of a s) ≡ 0
     done h n true w = said_none h w
     done h n false w = absurd (n (unwritable a s w))

@@ -1,14 +1,12 @@
 -- A callsign and its number, each from the other: base 40, least digit first. Assumes nothing.
-use mathlib.Core.Path.{◌≡◌, refl, sym, ap, ap₂, ◌∙◌}
+use mathlib.Core.Path.{◌≡◌, refl, ap, ap₂, ◌∙◌}
 use mathlib.Core.Bool.{Bool, true, false, ◌&&◌}
-use mathlib.Core.List.{List, [], ◌∷◌, ◌++◌, map}
-use Prim.Native.Nat.{ℕ, zero, suc, ◌+◌, ◌-◌, ◌*◌, ◌/◌, ◌%◌, ◌^◌, ◌≤◌, ◌<◌}
+use mathlib.Core.List.{List, [], ◌∷◌, map}
+use Prim.Native.Nat.{ℕ, zero, suc, ◌+◌, ◌*◌, ◌/◌, ◌%◌, ◌^◌, ◌≤◌, ◌<◌}
 use native.Mathlib.Nat.{pow-suc, mod-lt, one-le-pow}
-use native.Mathlib.Numerals.{add-one}
 use native.Mathlib.Omega.{arith}
 use lib.Dec.{eqb, ltb, lit<}
-use lib.ListN.{length, get_or, take, drop, set}
-use lib.Seq.{take-suc-set, append_snoc, drop-cons}
+use lib.ListN.{length, get_or}
 use borrow.Author.Tests.{eqb-true, eq-eqb, ltb-true, lt-ltb}
 use Rattle.address.specs.Callsign.{character, upper, digit_of, callsign_of, known, blank, callsign_value}
 use Rattle.address.proofs.Alphabet.{digit_character, character_digit, digit_space, space_digit}
@@ -36,7 +34,7 @@ known_at (c ∷ s) zero e h = known_head c s e
 known_at (c ∷ s) (suc k) e h = known_at s k (known_tail c s e) (omega arith)
 
 -- a byte that is not makes it unknown
-pub unknown_at : (s : List ℕ) (k : ℕ) → k < length s → digit_of (get_or s k 0) ≡ 40 → known s ≡ false
+pub unknown_at : (s : List ℕ) (k : ℕ) → k < length s → 40 ≤ digit_of (get_or s k 0) → known s ≡ false
 unknown_at s k h e = go (known s) refl
   where
     go : (b : Bool) → known s ≡ b → b ≡ false
@@ -96,20 +94,3 @@ number_blank (c ∷ s) e =
     let both = both_true (eqb c 32) (blank s) e in
     let space : digit_of c ≡ 0 = ap digit_of (eqb-true c 32 both.0) ∙ space_digit in
     omega (arith, number_blank s both.1)
-
--- ---- a loop that takes a number's digits from the least on, and one that puts them together from the last on
-pub callsign_more : (l : List ℕ) (i v : ℕ) → i < 9 → length l ≡ 9
-    → take (i + 1) (set l i (character (v % 40))) ++ callsign_of (9 - (i + 1)) (v / 40) ≡ take i l ++ callsign_of (9 - i) v
-unfolding callsign_of
-callsign_more l i v h e =
-    let n : 9 - i ≡ suc (9 - (i + 1)) = omega arith in
-    let k : i < length l = omega arith in
-    ap (λ (m : ℕ). take m (set l i (character (v % 40))) ++ callsign_of (9 - (i + 1)) (v / 40)) (add-one i)
-    ∙ ap (λ (m : List ℕ). m ++ callsign_of (9 - (i + 1)) (v / 40)) (take-suc-set l i (character (v % 40)) k)
-    ∙ append_snoc (take i l) (character (v % 40)) (callsign_of (9 - (i + 1)) (v / 40))
-    ∙ ap (λ (m : ℕ). take i l ++ callsign_of m v) (sym n)
-
-pub drop_before : (s : List ℕ) (i : ℕ) → 0 < i → i ≤ length s → drop (i - 1) s ≡ get_or s (i - 1) 0 ∷ drop i s
-drop_before s i h k =
-    let n : suc (i - 1) ≡ i = omega arith in
-    drop-cons s (i - 1) 0 (omega arith) ∙ ap (λ (m : ℕ). get_or s (i - 1) 0 ∷ drop m s) n

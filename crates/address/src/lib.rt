@@ -1,14 +1,15 @@
 // Addresses: six bytes, high byte first, are a number, and the number says whose address it is.
 #![tactic(auto)]
 
-ghost use Rattle.std.specs.Prelude.{◌≡◌, cond, ◌<◌, ◌≤◌, length};
+ghost use Rattle.std.specs.Prelude.{◌≡◌, cond, ltb, ◌<◌, ◌^◌, length, IfSome, IfOk};
 ghost use Rattle.laws.specs.Value.{value_of, in_bytes};
-ghost use Rattle.address.specs.Callsign.{alphabet, upper, digit_of, callsign_of, known, callsign_value};
-ghost use Rattle.address.specs.Address.{without_callsign, decoded_of, written, unwritten, encoded_of};
+ghost use Rattle.address.specs.Callsign.{alphabet, digit_of, callsign_of, callsign_value};
+ghost use Rattle.address.specs.Address.{without_callsign, address_of, decoded_of, address_value, writable, encoded_of};
 
-use refusal::{Refusal, Verdict};
+use refusal::Refusal;
 
 // An address. The nine characters of a callsign stand beside it.
+// kept: where arrays are answered document 01 asks for a struct beside the enum: `Station` has it to write, `Reading` where it was read.
 #[derive(Clone, Copy)]
 pub enum Address {
     Invalid,
@@ -17,25 +18,20 @@ pub enum Address {
     Broadcast,
 }
 
-// What reading six bytes answers.
+// An address to write, with the characters of a callsign beside it. They are looked at only where it is one, but for their length.
+// kept: a slice and no array: C hands any number of characters, and each public function that writes refuses with 1 what is not nine of them.
 #[derive(Clone, Copy)]
-pub enum Heard {
-    Read(Address),
-    Refused(Refusal),
+pub struct Station<'a> {
+    pub address: Address,
+    pub callsign: &'a [u8],
 }
 
-// The characters are nine zeros unless the address is a callsign.
+// An address that was read. The characters are nine zeros unless it is a callsign.
+// kept: nine zeros where there are no characters: C has them so.
 #[derive(Clone, Copy)]
 pub struct Reading {
-    pub answer: Heard,
+    pub address: Address,
     pub callsign: [u8; 9],
-}
-
-// The bytes are six zeros on a refusal.
-#[derive(Clone, Copy)]
-pub struct Written {
-    pub answer: Verdict,
-    pub bytes: [u8; 6],
 }
 
 const ALPHABET: [u8; 40] = *b" ABCDEFGHIJKLMNOPQRSTUVWXYZ0123456789-/.";
@@ -47,37 +43,20 @@ fn characters() -> [u8; 40]
     ALPHABET
 }
 
-fn wide(x: u8) -> u64
-    ensures { (result ≡ x) × (result < 256) }
-{
-    x as u64
-}
-
 // The number that six bytes are.
-fn value_of(encoded: &[u8]) -> u64
-    requires { length encoded.now ≡ 6 }
-    ensures { (result ≡ value_of encoded.now) × (result ≤ 0xFFFFFFFFFFFF) }
+fn value_of(encoded: [u8; 6]) -> u64
+    ensures { result ≡ value_of encoded }
 {
-    let a = wide(encoded[0]);
-    let b = wide(encoded[1]);
-    let c = wide(encoded[2]);
-    let d = wide(encoded[3]);
-    let e = wide(encoded[4]);
-    let f = wide(encoded[5]);
-    a * 0x10000000000 + b * 0x100000000 + c * 0x1000000 + d * 0x10000 + e * 0x100 + f
+    let [a, b, c, d, e, f] = encoded;
+    u64::from_be_bytes([0, 0, a, b, c, d, e, f])
 }
 
 // The six bytes of a number.
 fn bytes_of(value: u64) -> [u8; 6]
-    requires { value ≤ 0xFFFFFFFFFFFF }
+    requires { value < 2 ^ 48 }
     ensures { result ≡ in_bytes 6 value }
 {
-    let a = (value / 0x10000000000) as u8;
-    let b = (value % 0x10000000000 / 0x100000000) as u8;
-    let c = (value % 0x100000000 / 0x1000000) as u8;
-    let d = (value % 0x1000000 / 0x10000) as u8;
-    let e = (value % 0x10000 / 0x100) as u8;
-    let f = (value % 256) as u8;
+    let [_, _, a, b, c, d, e, f] = value.to_be_bytes();
     [a, b, c, d, e, f]
 }
 
@@ -88,138 +67,115 @@ fn decode_base_40(value: u64) -> [u8; 9]
     let alphabet = characters();
     let mut callsign = [b' '; 9];
     let mut left = value;
-    let mut pos = 0;
-    while pos < 9 {
-        let digit = (left % 40) as usize;
-        callsign[pos] = alphabet[digit];
+    for c in callsign.iter_mut() {
+        *c = alphabet[(left % 40) as usize];
         left /= 40;
-        pos += 1;
     }
     callsign
 }
 
-fn to_upper(c: u8) -> u8
-    ensures { result ≡ upper c }
+// The place of a byte in the alphabet, lower case taken as upper. None where it has none.
+fn digit_of(byte: u8) -> Option<u64>
+    ensures { result ≡ cond (ltb (digit_of byte) 40) (Some (digit_of byte)) None }
 {
-    if c < b'a' {
-        return c;
-    }
-    if b'z' < c {
-        return c;
-    }
-    c - 32
+    let c = byte.to_ascii_uppercase();
+    let place = characters().iter().position(|x| *x == c)?;
+    Some(place as u64)
 }
 
-// The place of a byte in the alphabet, lower case taken as upper: 40 where it has none.
-fn digit_of(byte: u8) -> u64
-    ensures { (result ≡ digit_of byte) × (result ≤ 40) }
-{
-    let alphabet = characters();
-    let c = to_upper(byte);
-    let mut pos = 0;
-    while pos < 40 {
-        if alphabet[pos] == c {
-            return pos as u64;
-        }
-        pos += 1;
-    }
-    40
-}
-
-// The number of nine characters: 0 where one of them is none.
-fn encode_base_40(callsign: &[u8]) -> u64
+// The number of nine characters. None where one of them is none, or all are spaces.
+fn encode_base_40(callsign: &[u8]) -> Option<u64>
     requires { length callsign.now ≡ 9 }
-    ensures { (result ≡ cond (known callsign.now) (callsign_value callsign.now) 0) × (result ≤ 0xEE6B27FFFFFF) }
+    ensures value { result ≡ cond (writable Address.Callsign callsign.now) (Some (callsign_value callsign.now)) None }
+    ensures bound { IfSome result (λ value. value < 2 ^ 48) }
 {
     let mut value = 0;
-    let mut pos = 9;
-    while 0 < pos {
-        pos -= 1;
-        let digit = digit_of(callsign[pos]);
-        if digit == 40 {
-            return 0;
-        }
-        value = value * 40 + digit;
+    for c in callsign.iter().rev() {
+        value = value * 40 + digit_of(*c)?;
     }
-    value
+    if value == 0 {
+        return None;
+    }
+    Some(value)
 }
 
-fn without_callsign(answer: Heard) -> Reading
-    ensures { result ≡ without_callsign answer }
+fn without_callsign(address: Address) -> Reading
+    ensures { result ≡ without_callsign address }
 {
     Reading {
-        answer,
+        address,
         callsign: [0u8; 9],
     }
 }
 
-// The address in six bytes.
-pub fn decode_address(encoded: &[u8]) -> Reading
-    ensures { result ≡ decoded_of encoded.now }
+// The address of a value.
+fn address_of(value: u64) -> Reading
+    ensures { result ≡ address_of value }
 {
-    if encoded.len() != 6 {
-        return without_callsign(Heard::Refused(Refusal::WrongLength));
-    }
-    let value = value_of(encoded);
     if value == 0 {
-        return without_callsign(Heard::Read(Address::Invalid));
+        return without_callsign(Address::Invalid);
     }
     if value <= 0xEE6B27FFFFFF {
         return Reading {
-            answer: Heard::Read(Address::Callsign),
+            address: Address::Callsign,
             callsign: decode_base_40(value),
         };
     }
     if value <= 0xFFFFFFFFFFFE {
-        return without_callsign(Heard::Read(Address::Reserved(value)));
+        return without_callsign(Address::Reserved(value));
     }
-    without_callsign(Heard::Read(Address::Broadcast))
+    without_callsign(Address::Broadcast)
 }
 
-fn wrote(value: u64) -> Written
-    requires { value ≤ 0xFFFFFFFFFFFF }
-    ensures { result ≡ written value }
-{
-    Written {
-        answer: Verdict::Done,
-        bytes: bytes_of(value),
-    }
-}
+// The address in six bytes.
+impl From<[u8; 6]> for Reading {
+    ghost from_gives = { λ six read. read ≡ address_of (value_of six) };
 
-fn refused(why: Refusal) -> Written
-    ensures { result ≡ unwritten why }
-{
-    Written {
-        answer: Verdict::Refused(why),
-        bytes: [0u8; 6],
+    fn from(six: [u8; 6]) -> Reading {
+        address_of(value_of(six))
     }
 }
 
-// The six bytes of an address. Only a callsign's characters are looked at.
-pub fn encode_address(address: Address, callsign: &[u8]) -> Written
-    ensures { result ≡ encoded_of address callsign.now }
+// The address in a buffer: 1 where that has not six bytes.
+pub fn decode_address(encoded: &[u8]) -> Result<Reading, Refusal>
+    ensures { result ≡ decoded_of encoded.now }
 {
-    if callsign.len() != 9 {
-        return refused(Refusal::WrongLength);
-    }
-    match address {
-        Address::Invalid => wrote(0),
-        Address::Callsign => {
-            let value = encode_base_40(callsign);
-            if value == 0 {
-                return refused(Refusal::BadAddress);
-            }
-            wrote(value)
-        }
+    // kept: `let .. else` serves the refusals, as document 01 has it.
+    let Ok(six) = <[u8; 6]>::try_from(encoded) else {
+        return Err(Refusal::WrongLength);
+    };
+    Ok(Reading::from(six))
+}
+
+// The value of an address. Only a callsign's characters are looked at.
+fn value_to_write(station: Station<'_>) -> Result<u64, Refusal>
+    requires { length station.callsign.now ≡ 9 }
+    ensures value { let a = station.entry.address in let s = station.entry.callsign.now in
+        result ≡ cond (writable a s) (Ok (address_value a s)) (Err Refusal.BadAddress) }
+    ensures bound { IfOk result (λ value. value < 2 ^ 48) }
+{
+    match station.address {
+        Address::Invalid => Ok(0),
+        Address::Callsign => encode_base_40(station.callsign).ok_or(Refusal::BadAddress),
         Address::Reserved(value) => {
             if value < 0xEE6B28000000 {
-                return refused(Refusal::BadAddress);
+                return Err(Refusal::BadAddress);
             }
             if 0xFFFFFFFFFFFE < value {
-                return refused(Refusal::BadAddress);
+                return Err(Refusal::BadAddress);
             }
-            wrote(value)
+            Ok(value)
         }
-        Address::Broadcast => wrote(0xFFFFFFFFFFFF),
+        Address::Broadcast => Ok(0xFFFFFFFFFFFF),
     }
+}
+
+// The six bytes of an address.
+pub fn encode_address(station: Station<'_>) -> Result<[u8; 6], Refusal>
+    ensures { result ≡ encoded_of station.entry.address station.entry.callsign.now }
+{
+    if station.callsign.len() != 9 {
+        return Err(Refusal::WrongLength);
+    }
+    Ok(bytes_of(value_to_write(station)?))
 }

@@ -5,14 +5,14 @@ use Prim.Native.Nat.{ℕ, zero, suc, ◌+◌, ◌*◌, ◌≤◌}
 use native.Mathlib.Omega.{arith}
 use lib.ListN.{length, take, length-append, length-take, length-drop}
 use lib.Seq.{length-take-le}
-use Rattle.refusal.specs.declared.Verdict.TheVariants.{Done}
+use Rattle.std.specs.Prelude.{Ok}
 use Rattle.automaton.specs.Seen.{Seen, stream, Sound}
 use Rattle.automaton.specs.Step.{State, idle, in_packet, gathering, Answer, header, stored, packet, fields, ended, refused, pieces, put, judge, answer, kept}
 use Rattle.automaton.specs.Runs.{Slots, start, ◌▸◌, AllSound, state, memory}
 use Rattle.automaton.proofs.Cases.{never}
 use Rattle.automaton.specs.Demand3.{ByAnswer, Bounded}
 use Rattle.automaton.proofs.ByAnswer.{by_answer}
-use Rattle.automaton.proofs.Verdicts.{good_only}
+use Rattle.automaton.proofs.Verdicts.{ok_is, good_only}
 use Rattle.automaton.specs.Opened.{Counted, Opened}
 use Rattle.automaton.proofs.Opened.{opened}
 use Rattle.automaton.proofs.Held.{held}
@@ -37,7 +37,7 @@ bounded past os = bounded_opened (state past) past os (opened past)
 put_long : (at : ℕ) (b m : List ℕ) → at + length b ≤ length m → length (put at b m) ≡ length m
 put_long at b m h = simp (length-append, length-drop) (omega (arith, length-take-le at m (omega arith)))
 
-final_fits : (st : State) (m : List ℕ) (len : ℕ) (b : List ℕ) → Bounded st → judge st m len b ≡ Done → 25 * pieces st + length (take len b) ≤ 825
+final_fits : (st : State) (m : List ℕ) (len : ℕ) (b : List ℕ) → Bounded st → judge st m len b ≡ Ok tt → 25 * pieces st + length (take len b) ≤ 825
 final_fits idle m len b o d = never (cc)
 final_fits (in_packet n) m len b o d = omega (arith, length-take len b, (good_only n len _ d).most)
 final_fits (gathering k q) m len b o d = never (cc)
@@ -48,7 +48,7 @@ kept_long st m s (stored k) o b e (p, slot, is) =
     let (few, long) = subst Sound slot o in
     ap length is ∙ put_long (25 * k) p m (omega arith) ∙ e
 kept_long st m s (packet t) o b e (len, p, slot, done, total, is) =
-    ap length is ∙ put_long (25 * pieces st) (take len p) m (omega (arith, final_fits st m len p b done)) ∙ e
+    ap length is ∙ put_long (25 * pieces st) (take len p) m (omega (arith, final_fits st m len p b (ok_is _ done))) ∙ e
 kept_long st m s (fields c p f l) o b e w = ap length w.2 ∙ e
 kept_long st m s ended o b e w = ap length w.1 ∙ e
 kept_long st m s (refused why) o b e w = ap length w.1 ∙ e

@@ -9,8 +9,8 @@ use lib.Seq.{take_at, length-take-le}
 use lib.Dec.{eqb}
 use borrow.Author.Tests.{eqb-true}
 use Rattle.refusal.specs.declared.Refusal.TheVariants.{OutOfTurn}
-use Rattle.refusal.specs.declared.Verdict.{Verdict}
-use Rattle.refusal.specs.declared.Verdict.TheVariants.{Done, Refused}
+use Rattle.std.specs.Prelude.{⊤, Result, Ok, Err}
+use Rattle.refusal.specs.declared.Refusal.{Refusal}
 use Rattle.crc.specs.Crc.{crc}
 use Rattle.automaton.specs.Seen.{Seen, head, piece, final, stream, end, unread, Sound, is_stream}
 use Rattle.automaton.specs.Step.{State, idle, in_packet, gathering, packet, stored, refused, verdict, judge, put, count, next, answer, kept}
@@ -54,11 +54,11 @@ same_piece : (x : Bool) (k : ℕ) (m m' : List ℕ) → handed (cond x (stored k
 same_piece true k m m' = refl
 same_piece false k m m' = refl
 
-same_verdict : (n len : ℕ) (m m' b : List ℕ) (v : Verdict) → judge (in_packet n) m len b ≡ v → judge (in_packet n) m' len b ≡ v
+same_verdict : (n len : ℕ) (m m' b : List ℕ) (v : Result ⊤ Refusal) → judge (in_packet n) m len b ≡ v → judge (in_packet n) m' len b ≡ v
     → length b ≡ 25 → Alike (in_packet n) m m' → saying (in_packet n) m (final len b) ≡ saying (in_packet n) m' (final len b)
 unfolding answer kept
-same_verdict n len m m' b (Refused why) e e' l a = rw (e, e')
-same_verdict n len m m' b Done e e' l a =
+same_verdict n len m m' b (Err why) e e' l a = rw (e, e')
+same_verdict n len m m' b (Ok x) e e' l a =
     let k : length (take len b) ≡ len = length-take-le len b (omega (arith, (good_only n len _ e).most)) in
     let t : length (take (25 * n) m) + length (take len b) ≡ 25 * n + len = omega arith in
     rw (e, e')

@@ -7,7 +7,7 @@ use Prim.Native.Nat.{ℕ, ◌+◌, ◌*◌}
 use native.Mathlib.Omega.{arith}
 use lib.ListN.{length, take, drop, length-append}
 use lib.Seq.{length-take-le, take-append_seam}
-use Rattle.refusal.specs.declared.Verdict.TheVariants.{Done}
+use Rattle.std.specs.Prelude.{Ok}
 use Rattle.crc.specs.Crc.{crc}
 use Rattle.automaton.specs.Seen.{Seen, head, final, Sound}
 use Rattle.automaton.specs.Step.{State, idle, in_packet, gathering, packet, judge, answer, kept}
@@ -15,7 +15,7 @@ use Rattle.automaton.specs.Runs.{Slots, ◌▸◌, AllSound, state, memory, hand
 use Rattle.automaton.proofs.Cases.{never}
 use Rattle.automaton.specs.Demand3.{ByAnswer}
 use Rattle.automaton.proofs.ByAnswer.{by_answer}
-use Rattle.automaton.proofs.Verdicts.{good_only, good_if}
+use Rattle.automaton.proofs.Verdicts.{ok_is, good_only, good_if}
 use Rattle.automaton.specs.Opened.{Opened}
 use Rattle.automaton.proofs.Opened.{opened}
 use Rattle.automaton.proofs.Held.{Held, held, begins, put_after}
@@ -36,7 +36,7 @@ module _ (m : List ℕ) (gone : Slots) (os : AllSound gone) where
         let a : length (take k.len k.b) ≡ k.len = length-take-le k.len k.b (omega (arith, k.most)) in
         (a, ap length k.joined ∙ simp length-append (omega (arith, pieces_held.long)))
 
-    is_good : judge (in_packet n) (memory m gone) k.len k.b ≡ Done
+    is_good : judge (in_packet n) (memory m gone) k.len k.b ≡ Ok tt
     is_good =
         rw (begins m _ gone n _ pieces_held, ← k.joined)
         (good_if n k.len (crc bytes) (record { least = k.least; most = k.most; three = omega (arith, long.1, k.three); zero_crc = k.zero_crc }))
@@ -59,7 +59,7 @@ module _ (m : List ℕ) (gone : Slots) (os : AllSound gone) where
 
   -- ---- and only then
 
-  there_is : (st : State) → Opened st gone → (len : ℕ) (b : List ℕ) → length b ≡ 25 → judge st (memory m gone) len b ≡ Done
+  there_is : (st : State) → Opened st gone → (len : ℕ) (b : List ℕ) → length b ≡ 25 → judge st (memory m gone) len b ≡ Ok tt
       → (bytes : List ℕ) × Packet gone (final len b) bytes
   there_is idle o len b l d = never (cc)
   there_is (gathering k q) o len b l d = never (cc)
@@ -99,7 +99,7 @@ handed_out m gone s os o total bytes = (only, if)
     only : said m gone s ≡ record { answer = packet total; bytes = bytes } → Packet gone s bytes × (total ≡ length bytes)
     only e =
         let (len, b, closes, done, t, rest) = subst (ByAnswer (state gone) (memory m gone) s) (ap (λ (x : Said). x.answer) e) (by_answer (state gone) (memory m gone) s) in
-        let (made, k) = there_is m gone os (state gone) (opened gone) len b (subst Sound closes o).1 done in
+        let (made, k) = there_is m gone os (state gone) (opened gone) len b (subst Sound closes o).1 (ok_is _ done) in
         let k' : Packet gone s made = subst (λ (x : Seen). Packet gone x made) (sym closes) k in
         let (long, same) = same_packet _ total (length made) bytes made e (handed_if m gone os s o made k') in
         subst (λ (x : List ℕ). Packet gone s x × (total ≡ length x)) same (k', long)

@@ -9,8 +9,7 @@ use lib.ListN.{take}
 use borrow.Author.Tests.{eqb-true, eq-eqb}
 use Rattle.refusal.specs.declared.Refusal.{Refusal}
 use Rattle.refusal.specs.declared.Refusal.TheVariants.{OutOfTurn, BadFinal, TooShort, BadPacket}
-use Rattle.refusal.specs.declared.Verdict.{Verdict}
-use Rattle.refusal.specs.declared.Verdict.TheVariants.{Done, Refused}
+use Rattle.std.specs.Prelude.{⊤, Result, Ok, Err}
 use Rattle.crc.specs.Crc.{crc}
 use Rattle.automaton.specs.Seen.{Seen, head, piece, final, stream, end, unread}
 use Rattle.automaton.specs.Step.{State, idle, in_packet, gathering, Answer, stored, refused, expects, verdict, judge, told, answer}
@@ -21,9 +20,9 @@ use Rattle.automaton.proofs.Verdicts as verdicts
 use Rattle.automaton.proofs.Opened.{opened}
 use Rattle.automaton.proofs.Held.{held, begins}
 
-pub told_only : (total : ℕ) (v : Verdict) (why : Refusal) → told total v ≡ refused why → v ≡ Refused why
-told_only total Done why e = never (cc)
-told_only total (Refused w) why e = let q : w ≡ why = cc in ap Refused q
+pub told_only : (total : ℕ) (v : Result ⊤ Refusal) (why : Refusal) → told total v ≡ refused why → v ≡ Err why
+told_only total (Ok x) why e = never (cc)
+told_only total (Err w) why e = let q : w ≡ why = cc in ap Err q
 
 -- frame k is in turn only after a packet header and frames 0 to k - 1
 pub expected : (st : State) (k : ℕ) (gone : Slots) → expects st k ≡ true → Opened st gone → Pieces k gone
@@ -67,7 +66,7 @@ module _ (m : List ℕ) (gone : Slots) (os : AllSound gone) where
       only end alone e = never (cc)
       only (unread why) alone e = let q : why ≡ OutOfTurn = cc in absurd (alone (ap unread q))
 
-      none_open : (st : State) → Opened st gone → ((n : ℕ) → Pieces n gone → ⊥) → (len : ℕ) (b : List ℕ) → judge st (memory m gone) len b ≡ Refused OutOfTurn
+      none_open : (st : State) → Opened st gone → ((n : ℕ) → Pieces n gone → ⊥) → (len : ℕ) (b : List ℕ) → judge st (memory m gone) len b ≡ Err OutOfTurn
       none_open idle o none len b = refl
       none_open (in_packet n) o none len b = absurd (none n o)
       none_open (gathering k q) o none len b = refl
@@ -82,13 +81,13 @@ module _ (m : List ℕ) (gone : Slots) (os : AllSound gone) where
 
   module _ (s : Seen) (why : Refusal) (alone : s ≡ unread why → ⊥) (other : OutOfTurn ≡ why → ⊥) where
     abbrev Judged : Seen → Type 0
-    Judged s = (c : Closing gone s) × (verdict c.n c.len (crc c.bytes) ≡ Refused why)
+    Judged s = (c : Closing gone s) × (verdict c.n c.len (crc c.bytes) ≡ Err why)
 
     closing : ((said m gone s).answer ≡ refused why) ↔ Judged s
     unfolding answer
     closing = (only s alone, if)
       where
-        there_is : (st : State) → Opened st gone → (len : ℕ) (b : List ℕ) → judge st (memory m gone) len b ≡ Refused why → (n : ℕ) × Pieces n gone
+        there_is : (st : State) → Opened st gone → (len : ℕ) (b : List ℕ) → judge st (memory m gone) len b ≡ Err why → (n : ℕ) × Pieces n gone
         there_is idle o len b e = absurd (other cc)
         there_is (in_packet n) o len b e = (n, o)
         there_is (gathering k q) o len b e = absurd (other cc)

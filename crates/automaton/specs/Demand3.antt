@@ -1,9 +1,8 @@
 -- Demand 3 over what slots say: slots are fed in order to one receiver from its start, its packet memory m untouched between calls.
 -- Assumes nothing.
-use Rattle.std.specs.Prelude.{◌≡◌, ◌↔◌, ◌⊎◌, List, ◌++◌, ℕ, ◌+◌, ◌*◌, ◌%◌, ◌<◌, ◌≤◌, length, take, drop}
+use Rattle.std.specs.Prelude.{◌≡◌, ◌↔◌, ◌⊎◌, List, ◌++◌, ℕ, ◌+◌, ◌*◌, ◌%◌, ◌<◌, ◌≤◌, length, take, drop, IsOk}
 use Rattle.refusal.specs.declared.Refusal.{Refusal}
 use Rattle.refusal.specs.declared.Refusal.TheVariants.{OutOfTurn, BadFinal, TooShort, BadPacket}
-use Rattle.refusal.specs.declared.Verdict.TheVariants.{Done}
 use Rattle.crc.specs.Crc.{crc}
 use Rattle.automaton.specs.Seen.{Fields, Seen, head, piece, final, stream, end, unread, Sound}
 use Rattle.automaton.specs.Step.{State, idle, in_packet, gathering, Answer, header, stored, packet, fields, ended, refused, late, spoiled, pieces, judge, put, late_of, next, answer, kept}
@@ -15,7 +14,7 @@ abbrev pub ByAnswer : State → List ℕ → Seen → Answer → Type 0
 ByAnswer st m s (header h) = (s ≡ head h) × (kept st m s ≡ m)
 ByAnswer st m s (stored k) = (b : List ℕ) × (s ≡ piece k b) × (kept st m s ≡ put (25 * k) b m)
 ByAnswer st m s (packet t) =
-    (len : ℕ) × (b : List ℕ) × (s ≡ final len b) × (judge st m len b ≡ Done) × (t ≡ 25 * pieces st + len)
+    (len : ℕ) × (b : List ℕ) × (s ≡ final len b) × IsOk (judge st m len b) × (t ≡ 25 * pieces st + len)
     × (kept st m s ≡ put (25 * pieces st) (take len b) m)
 ByAnswer st m s (fields c p f l) = (s ≡ stream c p f) × (l ≡ late_of st c p) × (kept st m s ≡ m)
 ByAnswer st m s ended = (s ≡ end) × (kept st m s ≡ m)

@@ -1,10 +1,8 @@
 -- The slot receiver of document 01: its states, and what each slot does to a state and to packet memory. The next state does not look at
 -- memory, so what a slot does is three functions: `next`, `answer` and `kept`. Assumes nothing.
-use Rattle.std.specs.Prelude.{Bool, false, cond, ◌&&◌, List, [], ◌++◌, ℕ, suc, ◌+◌, ◌*◌, length, take, drop, eqb, ltb}
+use Rattle.std.specs.Prelude.{Bool, false, cond, ◌&&◌, List, [], ◌++◌, ℕ, suc, ◌+◌, ◌*◌, length, take, drop, eqb, ltb, ⊤, Result, Ok, Err}
 use Rattle.refusal.specs.declared.Refusal.{Refusal}
 use Rattle.refusal.specs.declared.Refusal.TheVariants.{OutOfTurn, BadFinal, TooShort, BadPacket}
-use Rattle.refusal.specs.declared.Verdict.{Verdict}
-use Rattle.refusal.specs.declared.Verdict.TheVariants.{Done, Refused}
 use Rattle.crc.specs.Crc.{crc}
 use Rattle.automaton.specs.Seen.{Fields, Seen, head, piece, final, stream, end, unread, is_stream}
 
@@ -49,26 +47,26 @@ pieces (in_packet n) = n
 pieces (gathering k q) = 0
 
 -- a final piece of len bytes after n pieces, with the CRC over them all: 9, then 10, then 11
-unfoldable pub verdict : ℕ → ℕ → ℕ → Verdict
+unfoldable pub verdict : ℕ → ℕ → ℕ → Result ⊤ Refusal
 verdict n len sum =
-    cond (eqb len 0) (Refused BadFinal)
-    (cond (ltb 25 len) (Refused BadFinal)
-    (cond (ltb (25 * n + len) 3) (Refused TooShort)
-    (cond (eqb sum 0) Done (Refused BadPacket))))
+    cond (eqb len 0) (Err BadFinal)
+    (cond (ltb 25 len) (Err BadFinal)
+    (cond (ltb (25 * n + len) 3) (Err TooShort)
+    (cond (eqb sum 0) (Ok tt) (Err BadPacket))))
 
-abbrev pub judge : State → List ℕ → ℕ → List ℕ → Verdict
-judge idle m len b = Refused OutOfTurn
+abbrev pub judge : State → List ℕ → ℕ → List ℕ → Result ⊤ Refusal
+judge idle m len b = Err OutOfTurn
 judge (in_packet n) m len b = verdict n len (crc (take (25 * n) m ++ take len b))
-judge (gathering k q) m len b = Refused OutOfTurn
+judge (gathering k q) m len b = Err OutOfTurn
 
 -- what a verdict answers of a packet of that many bytes, and which memory it leaves
-abbrev pub told : ℕ → Verdict → Answer
-told total Done = packet total
-told total (Refused why) = refused why
+abbrev pub told : ℕ → Result ⊤ Refusal → Answer
+told total (Ok x) = packet total
+told total (Err why) = refused why
 
-abbrev pub memory_left : Verdict → List ℕ → List ℕ → List ℕ
-memory_left Done new m = new
-memory_left (Refused why) new m = m
+abbrev pub memory_left : Result ⊤ Refusal → List ℕ → List ℕ → List ℕ
+memory_left (Ok x) new m = new
+memory_left (Err why) new m = m
 
 -- the bytes b put into memory at a place
 abbrev pub put : ℕ → List ℕ → List ℕ → List ℕ

@@ -6,32 +6,33 @@ use Prim.Native.Nat.{ℕ, ◌*◌, ◌<◌, ◌≤◌}
 use native.Mathlib.Omega.{arith}
 use lib.ListN.{length, get_or, get_or-eq_default}
 use borrow.Author.Tests.{ltb-true, ltb-false, lt-ltb, le-ltb}
+use Rattle.std.specs.Prelude.{Ok, Err}
+use Rattle.refusal.specs.Number.{said_of}
 use Rattle.refusal.specs.declared.Refusal.{Refusal}
 use Rattle.refusal.specs.declared.Refusal.TheVariants.{OutOfRange}
-use Rattle.bits.specs.declared.Bit.TheVariants.{Value, Refused}
 use Rattle.bits.specs.Bits.{bit, bits_of}
-use Rattle.bits.specs.Places.{number_of_bit, within, get_of}
+use Rattle.bits.specs.Places.{within, get_of}
 use Rattle.bits.proofs.Back.{length_bits}
 
 module _ (s : List ℕ) (i : ℕ) where
-  by : (t : Bool) → within s i ≡ t → get_of s i ≡ cond t (Value (bit (get_or (bits_of s) i false))) (Refused OutOfRange)
-  by t e = ap (λ (u : Bool). cond u (Value (bit (get_or (bits_of s) i false))) (Refused OutOfRange)) e
+  by : (t : Bool) → within s i ≡ t → get_of s i ≡ cond t (Ok (bit (get_or (bits_of s) i false))) (Err OutOfRange)
+  by t e = ap (λ (u : Bool). cond u (Ok (bit (get_or (bits_of s) i false))) (Err OutOfRange)) e
 
-  pub got : (b : ℕ) → get_of s i ≡ Value b → b ≡ bit (get_or (bits_of s) i false)
+  pub got : (b : ℕ) → get_of s i ≡ Ok b → b ≡ bit (get_or (bits_of s) i false)
   got b e = go (within s i) refl
     where
       go : (t : Bool) → within s i ≡ t → b ≡ bit (get_or (bits_of s) i false)
       go true w = let p = by true w in cc
       go false w = let p = by false w in let z : ◌≡◌ {A = ℕ} 0 1 = cc in absurd (omega arith)
 
-  pub held : (b : ℕ) → get_of s i ≡ Value b → i < 8 * length s
+  pub held : (b : ℕ) → get_of s i ≡ Ok b → i < 8 * length s
   held b e = go (within s i) refl
     where
       go : (t : Bool) → within s i ≡ t → i < 8 * length s
       go true w = ltb-true i (8 * length s) w
       go false w = let p = by false w in let z : ◌≡◌ {A = ℕ} 0 1 = cc in absurd (omega arith)
 
-  pub missed : (why : Refusal) → get_of s i ≡ Refused why → 8 * length s ≤ i
+  pub missed : (why : Refusal) → get_of s i ≡ Err why → 8 * length s ≤ i
   missed why e = go (within s i) refl
     where
       go : (t : Bool) → within s i ≡ t → 8 * length s ≤ i
@@ -44,8 +45,8 @@ module _ (s : List ℕ) (i : ℕ) where
 
   -- ---- refusal 2 comes exactly past the bytes
 
-  pub refused_when : 8 * length s ≤ i → number_of_bit (get_of s i) ≡ 2
-  refused_when h = ap number_of_bit (by false (le-ltb i (8 * length s) h))
+  pub refused_when : 8 * length s ≤ i → said_of (get_of s i) ≡ 2
+  refused_when h = ap said_of (by false (le-ltb i (8 * length s) h))
 
-  pub answered_when : i < 8 * length s → number_of_bit (get_of s i) ≡ 0
-  answered_when h = ap number_of_bit (by true (lt-ltb i (8 * length s) h))
+  pub answered_when : i < 8 * length s → said_of (get_of s i) ≡ 0
+  answered_when h = ap said_of (by true (lt-ltb i (8 * length s) h))

@@ -1,20 +1,38 @@
--- Eight bits from a place on make a byte. Assumes nothing.
-use mathlib.Core.Path.{◌≡◌, refl, ap, ◌∙◌}
+-- Bits packed into bytes: a byte after k of its bits, and the slice that moves on by eight. Assumes nothing.
+use mathlib.Core.Path.{◌≡◌, refl, ap}
 use mathlib.Core.Bool.{Bool, false}
 use mathlib.Core.List.{List}
-use Prim.Native.Nat.{ℕ, ◌+◌, ◌*◌}
-use native.Mathlib.Nat.{add-zero}
+use Prim.Native.Nat.{ℕ, zero, suc, ◌+◌, ◌*◌, ◌^◌, ◌<◌}
+use native.Mathlib.Nat.{pow-suc, lt_of_lt_of_le}
 use native.Mathlib.Omega.{arith}
-use lib.ListN.{drop, get_or}
-use lib.Seq.{get_or-drop}
+use native.Mathlib.Numerals.{add-one}
+use lib.Dec.{lit<}
+use lib.Pow.{pow_mono}
+use lib.ListN.{get_or}
 use Rattle.bits.specs.Bits.{bit, byte_of}
+use Rattle.bits.proofs.Back.{bit-lt}
 
-module _ (l : List Bool) (j : ℕ) where
-  at : (c k : ℕ) → j + c ≡ k → bit (get_or (drop j l) c false) ≡ bit (get_or l k false)
-  at c k e = ap bit (get_or-drop j l c false ∙ ap (λ (k : ℕ). get_or l k false) e)
+-- the number of the first k bits
+unfoldable pub first_bits : List Bool → ℕ → ℕ
+first_bits l zero = 0
+first_bits l (suc k) = 2 * first_bits l k + bit (get_or l k false)
 
-  pub byte_is : (a b c d e f g h : ℕ) → a ≡ bit (get_or l j false) → b ≡ bit (get_or l (j + 1) false) → c ≡ bit (get_or l (j + 2) false) → d ≡ bit (get_or l (j + 3) false)
-      → e ≡ bit (get_or l (j + 4) false) → f ≡ bit (get_or l (j + 5) false) → g ≡ bit (get_or l (j + 6) false) → h ≡ bit (get_or l (j + 7) false)
-      → 128 * a + 64 * b + 32 * c + 16 * d + 8 * e + 4 * f + 2 * g + h ≡ byte_of (drop j l)
-  byte_is a b c d e f g h ea eb ec ed ee ef eg eh =
-      omega (arith, at 0 j (add-zero j), at 1 (j + 1) refl, at 2 (j + 2) refl, at 3 (j + 3) refl, at 4 (j + 4) refl, at 5 (j + 5) refl, at 6 (j + 6) refl, at 7 (j + 7) refl)
+pub first_none : (l : List Bool) → first_bits l 0 ≡ 0
+unfolding first_bits
+first_none l = refl
+
+pub first_more : (l : List Bool) (k : ℕ) → first_bits l (k + 1) ≡ 2 * first_bits l k + bit (get_or l k false)
+unfolding first_bits
+first_more l k = ap (first_bits l) (add-one k)
+
+first_pow : (l : List Bool) (k : ℕ) → first_bits l k < 2 ^ k
+unfolding first_bits
+first_pow l zero = lit< tt
+first_pow l (suc k) = omega (arith, first_pow l k, bit-lt (get_or l k false), pow-suc 2 k)
+
+pub first_lt : (l : List Bool) (k : ℕ) → k < 8 → first_bits l k < 128
+first_lt l k h = lt_of_lt_of_le (first_pow l k) (pow_mono {i = k} {j = 7} (omega arith))
+
+pub first_all : (l : List Bool) → first_bits l 8 ≡ byte_of l
+unfolding first_bits
+first_all l = omega arith

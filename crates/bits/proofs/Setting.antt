@@ -1,5 +1,5 @@
 -- A bit that is set: what the bytes are then, that it reads as set, and that every other place is kept. Assumes nothing.
-use mathlib.Core.Path.{◌≡◌, refl, sym, ap, ap₂, ◌∙◌}
+use mathlib.Core.Path.{◌≡◌, sym, ap, ap₂, ◌∙◌}
 use mathlib.Core.Bool.{Bool, true, false, not, cond}
 use mathlib.Core.List.{List, [], ◌∷◌}
 use Prim.Native.Nat.{ℕ, zero, suc, ◌-◌, ◌*◌, ◌/◌, ◌%◌, ◌^◌, ◌<◌, ◌≤◌}
@@ -13,16 +13,13 @@ use Rattle.laws.specs.Value.{Bytes}
 use Rattle.laws.proofs.Every.{every, every_at}
 use Rattle.bits.specs.Bits.{bit, eight, bits_of, byte_of, bytes_of}
 use Rattle.bits.specs.Places.{within, get_of, flag, with_bit}
+use Rattle.std.specs.Prelude.{Result, Ok, Err}
+use Rattle.refusal.specs.declared.Refusal.{Refusal}
 use Rattle.refusal.specs.declared.Refusal.TheVariants.{OutOfRange}
-use Rattle.bits.specs.declared.Bit.TheVariants.{Value, Refused}
 use Rattle.bits.proofs.Back.{length_bits, length_bytes, byte_eight, bytes_bits, bits_bytes, next_byte, next_bit}
 
 pub flag_one : (v : ℕ) → (v ≡ 0 → ⊥) → flag v ≡ true
 flag_one v h = ap not (ne_eqb v 0 h)
-
-pub flag-bit : (b : Bool) → flag (bit b) ≡ b
-flag-bit true = refl
-flag-bit false = refl
 
 -- ---- the byte that holds the bit
 
@@ -86,13 +83,13 @@ within_with : (s : List ℕ) (i v j : ℕ) → within (with_bit s i v) j ≡ wit
 within_with s i v j = ap (λ (n : ℕ). ltb j (8 * n)) (length_with s i v)
 
 -- a bit that was set reads as set
-pub set_get : (s : List ℕ) (i v : ℕ) → i < 8 * length s → get_of (with_bit s i v) i ≡ Value (bit (flag v))
+pub set_get : (s : List ℕ) (i v : ℕ) → i < 8 * length s → get_of (with_bit s i v) i ≡ Ok (bit (flag v))
 set_get s i v h =
-    ap₂ (λ (t : Bool) (b : Bool). cond t (Value (bit b)) (Refused OutOfRange)) (within_with s i v i ∙ lt-ltb i (8 * length s) h)
+    ap₂ {C = Result ℕ Refusal} (λ (t : Bool) (b : Bool). cond t (Ok (bit b)) (Err OutOfRange)) (within_with s i v i ∙ lt-ltb i (8 * length s) h)
     (ap (λ (l : List Bool). get_or l i false) (bits_with s i v) ∙ get_or-set_same (bits_of s) i (flag v) false (omega (arith, length_bits s)))
 
 -- and every other place reads as before
 pub set_others : (s : List ℕ) (i v j : ℕ) → (j ≡ i → ⊥) → get_of (with_bit s i v) j ≡ get_of s j
 set_others s i v j n =
-    ap₂ (λ (t : Bool) (b : Bool). cond t (Value (bit b)) (Refused OutOfRange)) (within_with s i v j)
+    ap₂ {C = Result ℕ Refusal} (λ (t : Bool) (b : Bool). cond t (Ok (bit b)) (Err OutOfRange)) (within_with s i v j)
     (ap (λ (l : List Bool). get_or l j false) (bits_with s i v) ∙ get_or-set_other (bits_of s) i j (flag v) false n)

@@ -2,18 +2,12 @@
 #![tactic(auto)]
 
 ghost use Rattle.std.specs.Prelude.{◌≡◌, false, ◌*◌, ◌<◌, length, get_or};
-ghost use Rattle.bits.specs.Bits.{bits_of, bit};
+ghost use Rattle.std.specs.Iterator.{at_most};
+ghost use Rattle.bits.specs.Bits.{bits_of, bit, byte_of, bytes_of};
 ghost use Rattle.bits.specs.Places.{get_of, set_of, with_bit};
-ghost use Rattle.bits.specs.Reader.{step_of};
+ghost use Rattle.bits.specs.Reader.{Reads, next_of, place_after, bits_left};
 
-use refusal::{Refusal, Verdict};
-
-// What reading a bit answers.
-#[derive(Clone, Copy)]
-pub enum Bit {
-    Value(u8),
-    Refused(Refusal),
-}
+use refusal::Refusal;
 
 fn peek(bytes: &[u8], place: usize) -> u8
     requires { place < 8 * length bytes.now }
@@ -37,24 +31,24 @@ fn put(bytes: &mut [u8], place: usize, value: u8)
 }
 
 // The bit at a place.
-pub fn get_bit(bytes: &[u8], place: usize) -> Bit
+pub fn get_bit(bytes: &[u8], place: usize) -> Result<u8, Refusal>
     ensures { result ≡ get_of bytes.now place }
 {
-    if place / 8 < bytes.len() {
-        return Bit::Value(peek(bytes, place));
+    if bytes.len() <= place / 8 {
+        return Err(Refusal::OutOfRange);
     }
-    Bit::Refused(Refusal::OutOfRange)
+    Ok(peek(bytes, place))
 }
 
 // The bit at a place becomes 0 where the value is 0, and 1 where it is any other.
-pub fn set_bit(bytes: &mut [u8], place: usize, value: u8) -> Verdict
+pub fn set_bit(bytes: &mut [u8], place: usize, value: u8) -> Result<(), Refusal>
     ensures { (result ≡ set_of bytes.old place) × (bytes.new ≡ with_bit bytes.old place value) }
 {
     if place / 8 < bytes.len() {
         put(bytes, place, value);
-        return Verdict::Done;
+        return Ok(());
     }
-    Verdict::Refused(Refusal::OutOfRange)
+    Err(Refusal::OutOfRange)
 }
 
 // Bits in order: a lent slice, and the place of the bit that comes next.
@@ -64,43 +58,14 @@ pub struct BitsIterator<'a> {
     pub idx: usize,
 }
 
-// The next bit, or the end.
-#[derive(Clone, Copy)]
-pub enum NextBit {
-    Value(u8),
-    End,
-}
-
-// What reading on answers, and the place where it goes on.
-#[derive(Clone, Copy)]
-pub struct Step {
-    pub bit: NextBit,
-    pub place: usize,
-}
-
-// No place comes after this one, so no bit is read there: a slice that has it holds 2^61 bytes or more.
-const LAST: usize = 0xFFFF_FFFF_FFFF_FFFF;
-
-// The work, on a plain slice and a number.
-fn step_at(bits: &[u8], idx: usize) -> Step
-    ensures { result ≡ step_of bits.now idx }
+// The next bit, or the end, which leaves the place as it is. No place comes after the last of usize, so no bit is read there.
+pub fn next_bit(bytes: &[u8], place: &mut usize) -> Option<u8>
+    ensures { (result ≡ next_of bytes.now place.old) × (place.new ≡ place_after bytes.now place.old) }
 {
-    if idx == LAST {
-        return Step {
-            bit: NextBit::End,
-            place: idx,
-        };
-    }
-    match get_bit(bits, idx) {
-        Bit::Value(b) => Step {
-            bit: NextBit::Value(b),
-            place: idx + 1,
-        },
-        Bit::Refused(_) => Step {
-            bit: NextBit::End,
-            place: idx,
-        },
-    }
+    let next = place.checked_add(1)?;
+    let bit = get_bit(bytes, *place).ok()?;
+    *place = next;
+    Some(bit)
 }
 
 impl<'a> BitsIterator<'a> {
@@ -110,17 +75,60 @@ impl<'a> BitsIterator<'a> {
     {
         BitsIterator { bits, idx }
     }
+}
 
-    pub fn next(self) -> Step
-        ensures { result ≡ step_of self.entry.bits.now self.entry.idx }
-    {
-        step_at(self.bits, self.idx)
+impl<'a> Iterator for BitsIterator<'a> {
+    type Item = u8;
+
+    ghost next_gives = { Reads };
+
+    ghost remaining = { λ s. at_most (bits_left s) };
+
+    fn next(&mut self) -> Option<u8> {
+        next_bit(self.bits, &mut self.idx)
     }
 }
 
-// The same for whoever has a slice and a place: its callers need no proof by hand.
-pub fn next_bit(bytes: &[u8], place: usize) -> Step
-    ensures { result ≡ step_of bytes.now place }
+// The byte of fewer than eight bits: a bit that is missing is 0.
+fn last_byte(bits: &[bool]) -> u8
+    ensures { result ≡ byte_of bits.now }
 {
-    BitsIterator::new(bytes, place).next()
+    let mut byte = 0;
+    // kept: by the place: `get(k)` shows where a bit may be missing; with eight zeros chained and eight bits taken, that would be in the iterator.
+    for k in 0..8 {
+        byte = 2 * byte + u8::from(bits.get(k).copied().unwrap_or(false));
+    }
+    byte
+}
+
+// The byte of the first eight bits.
+// kept: two functions of one contract: with `last_byte` alone 46 bytes are packed in 184 ns and not 153, a fifth longer.
+fn byte_of(bits: &[bool]) -> u8
+    ensures { result ≡ byte_of bits.now }
+{
+    match bits {
+        [a, b, c, d, e, f, g, h, ..] => {
+            128 * u8::from(*a)
+                + 64 * u8::from(*b)
+                + 32 * u8::from(*c)
+                + 16 * u8::from(*d)
+                + 8 * u8::from(*e)
+                + 4 * u8::from(*f)
+                + 2 * u8::from(*g)
+                + u8::from(*h)
+        }
+        _ => last_byte(bits),
+    }
+}
+
+// The bits packed, and zeros past them.
+pub fn pack(bits: &[bool], out: &mut [u8])
+    ensures { out.new ≡ bytes_of (length out.old) bits.now }
+{
+    let mut left = bits;
+    // kept: the rest by hand: of bytes written through `out.iter_mut().zip(bits.chunks(8))` nothing is known afterwards.
+    for byte in out.iter_mut() {
+        *byte = byte_of(left);
+        left = &left[8.min(left.len())..];
+    }
 }

@@ -6,7 +6,7 @@ ghost use Rattle.laws.specs.Tabled.{tabled};
 ghost use Rattle.crc.specs.Crc.{byte_remainder, crc_from, crc};
 
 // What a byte in front of sixteen zero bits leaves.
-const TABLE: [u16; 256] = [
+static TABLE: [u16; 256] = [
     0x0000, 0x5935, 0xB26A, 0xEB5F, 0x3DE1, 0x64D4, 0x8F8B, 0xD6BE, 0x7BC2, 0x22F7, 0xC9A8, 0x909D,
     0x4623, 0x1F16, 0xF449, 0xAD7C, 0xF784, 0xAEB1, 0x45EE, 0x1CDB, 0xCA65, 0x9350, 0x780F, 0x213A,
     0x8C46, 0xD573, 0x3E2C, 0x6719, 0xB1A7, 0xE892, 0x03CD, 0x5AF8, 0xB63D, 0xEF08, 0x0457, 0x5D62,
@@ -31,16 +31,10 @@ const TABLE: [u16; 256] = [
     0x584B, 0x017E, 0xEA21, 0xB314,
 ];
 
-fn table() -> [u16; 256]
-    ensures { result ≡ tabled byte_remainder 256 }
+fn table() -> &'static [u16; 256]
+    ensures { result.now ≡ tabled byte_remainder 256 }
 {
-    TABLE
-}
-
-fn wide(x: u8) -> u16
-    ensures { result ≡ x }
-{
-    x as u16
+    &TABLE
 }
 
 // The CRC of more input after input whose CRC is known.
@@ -49,9 +43,9 @@ pub fn update(start: u16, input: &[u8]) -> u16
 {
     let remainders = table();
     let mut r = start;
-    for i in 0..input.len() {
-        let top = (r / 256) ^ wide(input[i]);
-        r = ((r % 256) * 256) ^ remainders[top as usize];
+    for byte in input {
+        let top = (r / 256) ^ u16::from(*byte);
+        r = ((r % 256) * 256) ^ remainders[usize::from(top)];
     }
     r
 }

@@ -1,6 +1,7 @@
 pub mod Words
 pub mod Pairs
 pub mod Masks
+pub mod Steps
 pub mod ByLength
 pub mod Ranges
 pub mod SymbolsBack

@@ -8,14 +8,14 @@ use lib.ListN.{length, take, length-append}
 use lib.Seq.{take_at}
 use Rattle.laws.specs.Value.{value_of, in_bytes, Bytes}
 use Rattle.laws.proofs.Number.{value_lt, bytes_of_value, value_of_bytes, value_append}
-use Rattle.golay.specs.declared.Reading.TheVariants.{Data}
+use Rattle.std.specs.Prelude.{Result, Ok}
+use Rattle.refusal.specs.declared.Refusal.{Refusal}
 use Rattle.golay.specs.Golay.{golay, apart, decoded_of}
 use Rattle.golay.proofs.Linear.{golay-lt}
 use Rattle.golay.proofs.Near.{apart_self}
 use Rattle.golay.proofs.Only.{three_flips}
 use Rattle.encode.specs.Lich.{lich_value, golay_bytes, lich_words, lich_bytes}
-use Rattle.decode.specs.declared.Counted.TheVariants.{Counter}
-use Rattle.decode.specs.declared.LichRead.{LichRead}
+use Rattle.decode.specs.declared.LichPart.{LichPart}
 use Rattle.decode.specs.Lich.{lich_from, word_at, lich_read_of}
 use Rattle.decode.proofs.Words.{value_three}
 use Rattle.laws.proofs.Bytes.{bytes_in_bytes, bytes_append, bytes_one}
@@ -91,28 +91,28 @@ module _ (counter : ℕ) (part : List ℕ) (long : length part ≡ 5) (bytes : B
   value_small : value_of six < 2 ^ 48
   value_small = subst (λ (n : ℕ). value_of six < 256 ^ n) length-six (value_lt six six_bytes)
 
-  from_value : lich_from (value_of six) ≡ record { answer = Counter counter; part = part }
+  from_value : lich_from (value_of six) ≡ record { counter = counter; part = part }
   unfolding six value_of
   from_value =
-      ap₂ {C = LichRead} (λ (c : ℕ) (p : List ℕ). record { answer = Counter c; part = p })
+      ap₂ {C = LichPart} (λ (c : ℕ) (p : List ℕ). record { counter = c; part = p })
       (counter_of (value_of six) (value_of part) counter (value_append part (counter * 32 ∷ []) ∙ omega arith) small)
       (ap (take 5) (ap (λ (n : ℕ). in_bytes n (value_of six)) (sym length-six) ∙ bytes_of_value six six_bytes) ∙ take_at part (counter * 32 ∷ []) 5 long)
 
   -- up to three flips in each word leave the reading as it was
   pub lich_flips : (s : List ℕ) → length s ≡ 12 → Bytes s → ((j : ℕ) → j < 4 → apart (word_at (lich_bytes counter part) j) (word_at s j) ≤ 3)
-      → lich_read_of s ≡ record { answer = Counter counter; part = part }
+      → lich_read_of s ≡ Ok (record { counter = counter; part = part })
   unfolding six
   lich_flips s twelve-long are near =
       let v = lich_value counter part in
-      let read : (j : ℕ) → j < 4 → decoded_of (word_at s j) ≡ Data (twelve v j) =
+      let read : (j : ℕ) → j < 4 → decoded_of (word_at s j) ≡ Ok (twelve v j) =
       λ j h.
       three_flips (word_at s j) (twelve v j) (word_lt s j twelve-long are h) (twelve-lt v j)
       (subst (λ (w : ℕ). apart w (word_at s j) ≤ 3) (word_is v j h) (near j h)) in
       all_read s twelve-long (twelve v 0) (read 0 (omega arith)) (twelve v 1) (read 1 (omega arith)) (twelve v 2) (read 2 (omega arith)) (twelve v 3) (read 3 (omega arith))
-      ∙ ap lich_from (joined v value_small) ∙ from_value
+      ∙ ap {B = Result LichPart Refusal} Ok (ap lich_from (joined v value_small) ∙ from_value)
 
   -- what is written reads back
-  pub lich_back : lich_read_of (lich_bytes counter part) ≡ record { answer = Counter counter; part = part }
+  pub lich_back : lich_read_of (lich_bytes counter part) ≡ Ok (record { counter = counter; part = part })
   lich_back =
       lich_flips (lich_bytes counter part) (length_lich (lich_value counter part)) (lich_bytes_lem (lich_value counter part))
       (λ j h. omega (arith, apart_self (word_at (lich_bytes counter part) j)))

@@ -9,17 +9,18 @@ use lib.Bits.{xor_lt}
 use lib.Dec.{ltb, ltb→lt}
 use lib.ListN.{length, get_or, get_or-eq_default}
 use borrow.Author.Tests.{eq-eqb}
+use Rattle.std.specs.Prelude.{Result, Ok}
 use Rattle.laws.specs.Value.{Bytes}
 use Rattle.laws.proofs.Every.{every_at}
+use Rattle.refusal.specs.declared.Refusal.{Refusal}
 use Rattle.bits.specs.Bits.{bits_of, bytes_of}
 use Rattle.bits.proofs.Back.{length_bits, length_bytes, bytes_bits, bits_bytes, bytes_are}
 use Rattle.random.specs.Random.{random_seq, xored}
 use Rattle.random.proofs.Twice.{length-xored, xored_at, xored_twice}
-use Rattle.interleave.specs.declared.Interleaved.{Interleaved}
 use Rattle.interleave.specs.Interleave.{interleaved, interleaved_of}
-use Rattle.interleave.proofs.Twice.{length-interleaved, interleaved_twice}
+use Rattle.interleave.proofs.Twice.{length-interleaved, interleaved_twice, right}
 use Rattle.encode.specs.Bodies.{masked}
-use Rattle.decode.specs.Bodies.{unmasked}
+use Rattle.decode.specs.Bodies.{unmasked, unmasked_of}
 
 pub length-unmasked : (b : List ℕ) → length (unmasked b) ≡ 46
 unfolding unmasked
@@ -47,11 +48,12 @@ pub masked_bytes : (c : List ℕ) → Bytes (masked c)
 unfolding masked
 masked_bytes c = xored_bytes (bytes_of 46 (interleaved (bits_of c))) (bytes_are 46 (interleaved (bits_of c)))
 
--- what the program makes: a copy of the body, xored, interleaved
-pub unmasks : (b raw : List ℕ) (r : Interleaved) → length b ≡ 46 → raw ≡ xored b → r ≡ interleaved_of raw → r.bytes ≡ unmasked b
-unfolding unmasked interleaved_of
-unmasks b raw r long of-raw of-r =
-    ap (λ (i : Interleaved). i.bytes) (of-r ∙ ap interleaved_of of-raw) ∙ simp (eq-eqb (length (xored b)) 46 (length-xored b ∙ long))
+-- a copy of the body, xored, interleaved
+pub unmasks : (b raw : List ℕ) → length b ≡ 46 → raw ≡ xored b → interleaved_of raw ≡ unmasked_of b
+unfolding unmasked
+unmasks b raw long of-raw =
+    right raw (ap length of-raw ∙ length-xored b ∙ long)
+    ∙ ap {B = Result (List ℕ) Refusal} (λ (s : List ℕ). Ok (bytes_of 46 (interleaved (bits_of s)))) of-raw ∙ sym (simp (eq-eqb (length b) 46 long))
 
 -- what is written is read
 pub unmasked-masked : (c : List ℕ) → Bytes c → length c ≡ 46 → unmasked (masked c) ≡ c

@@ -1,5 +1,5 @@
 -- Every frame in range that is written reads back, through bytes and through symbols. Assumes nothing.
-use mathlib.Core.Path.{◌≡◌, refl, sym, ap, ap₂, ◌∙◌, subst}
+use mathlib.Core.Path.{◌≡◌, refl, sym, ap, ap₂, ◌∙◌}
 use mathlib.Core.Bool.{Bool, true, false, cond}
 use mathlib.Core.List.{List, [], ◌∷◌, ◌++◌, append-nil}
 use Prim.Native.Nat.{ℕ, ◌+◌, ◌-◌, ◌*◌, ◌/◌, ◌%◌, ◌≤◌, ◌<◌}
@@ -12,28 +12,26 @@ use borrow.Author.Tests.{eq-eqb, le-leb, lt-leb, leb-true}
 use Rattle.laws.specs.Value.{value_of, in_bytes, Bytes}
 use Rattle.laws.proofs.Number.{value_of_bytes, length_in_bytes}
 use Rattle.laws.proofs.Padded.{padded_at}
-use Rattle.refusal.specs.declared.Verdict.TheVariants.{Done}
+use Rattle.std.specs.Prelude.{Result, Ok}
+use Rattle.refusal.specs.Number.{made_of}
+use Rattle.refusal.specs.declared.Refusal.{Refusal}
 use Rattle.bits.specs.Bits.{odd, bits_of}
 use Rattle.bits.proofs.Back.{length_bytes, bytes_are, bit_at, odd-bit}
 use Rattle.bits.proofs.Getting.{missing}
 use Rattle.fec.specs.declared.Kind.{Kind}
 use Rattle.fec.specs.declared.Kind.TheVariants.{Header, Stream, Packet}
-use Rattle.fec.specs.declared.Coded.{Coded}
-use Rattle.fec.specs.declared.Decoded.{Decoded}
-use Rattle.fec.specs.Kinds.{data_bytes, encoded_of, decoded, decoded_of}
-use Rattle.fec.proofs.Bodies.{encoded_long}
+use Rattle.fec.specs.Kinds.{coded_of, decoded_of}
 use Rattle.fec.proofs.Round.{same_bytes}
 use Rattle.protocol.specs.declared.PacketFrameCounter.{PacketFrameCounter}
 use Rattle.protocol.specs.declared.PacketFrameCounter.TheVariants.{Frame, FinalFrame}
-use Rattle.encode.specs.declared.Body.{Body}
 use Rattle.encode.specs.Lich.{lich_value, lich_bytes}
-use Rattle.encode.specs.Bodies.{masked, written, lsf_body_of, end_mark, stream_fields, stream_body_of, countable, packet_fields, packet_body_of}
+use Rattle.encode.specs.Bodies.{masked, lsf_body_of, end_mark, stream_fields, stream_body_of, countable, packet_fields, packet_body_of}
 use Rattle.encode.specs.Symbols.{frame_of, sync_of, symbols_from, lsf_symbols_of, stream_symbols_of, packet_symbols_of}
-use Rattle.decode.specs.declared.LichRead.{LichRead}
-use Rattle.decode.specs.declared.StreamRead.{StreamRead}
-use Rattle.decode.specs.declared.PacketRead.{PacketRead}
+use Rattle.protocol.specs.declared.StreamFrame.{StreamFrame}
+use Rattle.protocol.specs.declared.PacketFrame.{PacketFrame}
+use Rattle.protocol.specs.Header.{header}
 use Rattle.decode.specs.Lich.{lich_read_of}
-use Rattle.decode.specs.Bodies.{unmasked, lsf_from, lsf_read_of, stream_from, stream_by, stream_read_of, counter_from, packet_from, payload_back, packet_read_of}
+use Rattle.decode.specs.Bodies.{unmasked, lsf_read_of, stream_from, stream_by, stream_read_of, counter_from, packet_from, payload_back, packet_read_of}
 use Rattle.decode.specs.Symbols.{lsf_parsed_of, stream_parsed_of, packet_parsed_of}
 use Rattle.laws.proofs.Bytes.{bytes_in_bytes, bytes_append, bytes_zeros, bytes_one, bytes_take}
 use Rattle.decode.proofs.Masks.{length-masked, masked_bytes, unmasked-masked}
@@ -41,47 +39,55 @@ use Rattle.decode.proofs.ByLength.{lsf_long, stream_long, packet_long}
 use Rattle.decode.proofs.SymbolsBack.{length_frame, symbols_back}
 use Rattle.decode.proofs.LichBack.{length_lich, lich_bytes_lem, lich_back}
 
+-- it is written, and what is written reads back as y
+abbrev Back : {A B : Type 0} → Result A Refusal → (A → Result B Refusal) → B → Type 0
+Back {A} written read y = (x : A) × (written ≡ Ok x) × (read x ≡ Ok y)
+
 -- ---- the coded bytes are 46 bytes
 
-module _ (k : Kind) (d : List ℕ) (long : length d ≡ data_bytes k) where
-  length_encoded : length (encoded_of k d).bytes ≡ 46
-  length_encoded = ap (λ (c : Coded). length c.bytes) (encoded_long k d long) ∙ length_bytes 46 _
+module _ (k : Kind) (d : List ℕ) where
+  length_coded : length (coded_of k d) ≡ 46
+  unfolding coded_of
+  length_coded = length_bytes 46 _
 
-  encoded_bytes : Bytes (encoded_of k d).bytes
-  encoded_bytes = subst (λ (c : Coded). Bytes c.bytes) (sym (encoded_long k d long)) (bytes_are 46 _)
+  coded_bytes_lem : Bytes (coded_of k d)
+  unfolding coded_of
+  coded_bytes_lem = bytes_are 46 _
 
 -- ---- header
 
 module _ (h : List ℕ) (long : length h ≡ 30) (bytes : Bytes h) where
   coded_lsf : List ℕ
-  coded_lsf = (encoded_of Header h).bytes
+  coded_lsf = coded_of Header h
 
-  lsf_body : lsf_body_of h ≡ written (masked coded_lsf)
+  lsf_body : lsf_body_of h ≡ Ok (masked coded_lsf)
   unfolding lsf_body_of coded_lsf
   lsf_body = simp (eq-eqb (length h) 30 long)
 
-  decoded_lsf : decoded_of Header coded_lsf ≡ decoded h
+  decoded_lsf : decoded_of Header coded_lsf ≡ Ok h
   unfolding coded_lsf
   decoded_lsf =
-      ap (decoded_of Header) (sym (take_all 46 coded_lsf (omega (arith, length_encoded Header h long))))
-      ∙ same_bytes Header h long bytes (λ i b. missing h i (omega arith)) ∙ ap decoded (append-nil h)
+      ap (decoded_of Header) (sym (take_all 46 coded_lsf (omega (arith, length_coded Header h))))
+      ∙ same_bytes Header h long bytes (λ i b. missing h i (omega arith)) ∙ ap {B = Result (List ℕ) Refusal} Ok (append-nil h)
 
-  read_lsf : lsf_read_of (masked coded_lsf) ≡ record { answer = Done; frame = record { bytes = h } }
+  read_lsf : lsf_read_of (masked coded_lsf) ≡ Ok (header h)
   unfolding coded_lsf
   read_lsf =
       lsf_long (masked coded_lsf) (length-masked coded_lsf)
-      ∙ ap (λ (c : List ℕ). lsf_from (decoded_of Header c)) (unmasked-masked coded_lsf (encoded_bytes Header h long) (length_encoded Header h long))
-      ∙ ap lsf_from decoded_lsf
+      ∙ ap (λ (c : List ℕ). made_of header (decoded_of Header c)) (unmasked-masked coded_lsf (coded_bytes_lem Header h) (length_coded Header h))
+      ∙ ap (made_of header) decoded_lsf
 
-  pub lsf_back : lsf_read_of (lsf_body_of h).bytes ≡ record { answer = Done; frame = record { bytes = h } }
-  lsf_back = ap (λ (b : Body). lsf_read_of b.bytes) lsf_body ∙ read_lsf
+  pub lsf_back : Back (lsf_body_of h) lsf_read_of (header h)
+  lsf_back = (masked coded_lsf, lsf_body, read_lsf)
 
-  pub lsf_symbols_back : lsf_parsed_of (lsf_symbols_of (record { bytes = h })).symbols ≡ record { answer = Done; frame = record { bytes = h } }
+  pub lsf_symbols_back : Back (lsf_symbols_of (header h)) lsf_parsed_of (header h)
   unfolding lsf_parsed_of lsf_symbols_of
-  lsf_symbols_back =
-      ap (λ (b : Body). lsf_parsed_of (symbols_from Header b).symbols) lsf_body
-      ∙ simp (eq-eqb (length (frame_of (sync_of Header) (masked coded_lsf))) 192 (length_frame (sync_of Header) (masked coded_lsf)))
-      (ap lsf_read_of (symbols_back (sync_of Header) (masked coded_lsf) (length-masked coded_lsf) (masked_bytes coded_lsf) refl) ∙ read_lsf)
+  lsf_symbols_back = (
+    frame_of (sync_of Header) (masked coded_lsf),
+    ap (symbols_from Header) lsf_body,
+    simp (eq-eqb (length (frame_of (sync_of Header) (masked coded_lsf))) 192 (length_frame (sync_of Header) (masked coded_lsf)))
+        (ap lsf_read_of (symbols_back (sync_of Header) (masked coded_lsf) (length-masked coded_lsf) (masked_bytes coded_lsf) refl) ∙ read_lsf),
+  )
 
 -- ---- stream
 
@@ -114,11 +120,11 @@ module _ (index : ℕ) (part : List ℕ) (n : ℕ) (end : Bool) (s : List ℕ) (
   front = lich_bytes index part
 
   back : List ℕ
-  back = take 34 (encoded_of Stream plain_stream).bytes
+  back = take 34 (coded_of Stream plain_stream)
 
   length_back : length back ≡ 34
   unfolding back
-  length_back = length-take-le 34 (encoded_of Stream plain_stream).bytes (omega (arith, length_encoded Stream plain_stream length_plain))
+  length_back = length-take-le 34 (coded_of Stream plain_stream) (omega (arith, length_coded Stream plain_stream))
 
   length_front : length front ≡ 12
   unfolding front
@@ -127,7 +133,7 @@ module _ (index : ℕ) (part : List ℕ) (n : ℕ) (end : Bool) (s : List ℕ) (
   coded_stream : List ℕ
   coded_stream = front ++ back
 
-  stream_body_lem : stream_body_of index part n end s ≡ written (masked coded_stream)
+  stream_body_lem : stream_body_of index part n end s ≡ Ok (masked coded_stream)
   unfolding stream_body_of coded_stream front back plain_stream
   stream_body_lem = simp (eq-eqb (length part) 5 part_long, eq-eqb (length s) 16 long, le-leb index 5 (omega arith), le-leb n 32767 n-small)
 
@@ -135,21 +141,17 @@ module _ (index : ℕ) (part : List ℕ) (n : ℕ) (end : Bool) (s : List ℕ) (
   unfolding coded_stream front back
   unmasked_stream =
       unmasked-masked coded_stream
-      (bytes_append front back (lich_bytes_lem (lich_value index part)) (bytes_take 34 (encoded_of Stream plain_stream).bytes (encoded_bytes Stream plain_stream length_plain)))
+      (bytes_append front back (lich_bytes_lem (lich_value index part)) (bytes_take 34 (coded_of Stream plain_stream) (coded_bytes_lem Stream plain_stream)))
       (length-append front back ∙ omega (arith, length_front, length_back))
 
-  decoded-back : decoded_of Stream back ≡ decoded (plain_stream ++ replicate 12 0)
+  decoded-back : decoded_of Stream back ≡ Ok (plain_stream ++ replicate 12 0)
   unfolding back
   decoded-back = same_bytes Stream plain_stream length_plain plain_bytes (λ i b. missing plain_stream i (omega (arith, length_plain)))
 
-  fields : ℕ → Bool → List ℕ → StreamRead
-  fields m e l =
-      record {
-        answer = Done;
-        frame = record { lich_idx = index; lich_part = part; frame_number = m; end_of_stream = e; stream_data = l };
-      }
+  fields : ℕ → Bool → List ℕ → StreamFrame
+  fields m e l = record { lich_idx = index; lich_part = part; frame_number = m; end_of_stream = e; stream_data = l }
 
-  fields_back : stream_from index part (plain_stream ++ replicate 12 0) ≡ fields n end s
+  fields_back : stream_from (record { counter = index; part = part }) (plain_stream ++ replicate 12 0) ≡ fields n end s
   unfolding plain_stream marked fields in_bytes
   fields_back =
       let v : value_of (in_bytes 2 (n + end_mark end)) ≡ n + end_mark end = value_of_bytes 2 (n + end_mark end) marked_is.0 in
@@ -157,34 +159,30 @@ module _ (index : ℕ) (part : List ℕ) (n : ℕ) (end : Bool) (s : List ℕ) (
       ∙ ap₂ (λ (m : ℕ) (e : Bool). fields m e (take 16 (s ++ replicate 12 0))) marked_is.1 marked_is.2
       ∙ ap (fields n end) (take_at s (replicate 12 0) 16 long)
 
-  read_stream : stream_read_of (masked coded_stream) ≡ fields n end s
+  read_stream : stream_read_of (masked coded_stream) ≡ Ok (fields n end s)
   unfolding front
   read_stream =
       stream_long (masked coded_stream) (length-masked coded_stream)
-      ∙ ap (λ (c : List ℕ). stream_by (decoded_of Stream (drop 12 c)).answer (decoded_of Stream (drop 12 c)).bytes (lich_read_of (take 12 c))) unmasked_stream
-      ∙ ap₂ (λ (b l : List ℕ). stream_by (decoded_of Stream b).answer (decoded_of Stream b).bytes (lich_read_of l)) (drop_at front back 12 length_front) (take_at front back 12 length_front)
-      ∙ ap₂ (λ (d : Decoded) (l : LichRead). stream_by d.answer d.bytes l) decoded-back (lich_back index part part_long part_bytes (omega arith))
-      ∙ fields_back
+      ∙ ap (λ (c : List ℕ). stream_by (decoded_of Stream (drop 12 c)) (lich_read_of (take 12 c))) unmasked_stream
+      ∙ ap₂ (λ (b l : List ℕ). stream_by (decoded_of Stream b) (lich_read_of l)) (drop_at front back 12 length_front) (take_at front back 12 length_front)
+      ∙ ap₂ stream_by decoded-back (lich_back index part part_long part_bytes (omega arith))
+      ∙ ap {B = Result StreamFrame Refusal} Ok fields_back
 
-  pub stream_back : stream_read_of (stream_body_of index part n end s).bytes
-      ≡ record {
-        answer = Done;
-        frame = record { lich_idx = index; lich_part = part; frame_number = n; end_of_stream = end; stream_data = s };
-      }
+  pub stream_back : Back (stream_body_of index part n end s) stream_read_of
+      (record { lich_idx = index; lich_part = part; frame_number = n; end_of_stream = end; stream_data = s })
   unfolding fields
-  stream_back = ap (λ (b : Body). stream_read_of b.bytes) stream_body_lem ∙ read_stream
+  stream_back = (masked coded_stream, stream_body_lem, read_stream)
 
-  pub stream_symbols_back : stream_parsed_of
-      (stream_symbols_of (record { lich_idx = index; lich_part = part; frame_number = n; end_of_stream = end; stream_data = s })).symbols
-      ≡ record {
-        answer = Done;
-        frame = record { lich_idx = index; lich_part = part; frame_number = n; end_of_stream = end; stream_data = s };
-      }
+  pub stream_symbols_back : Back
+      (stream_symbols_of (record { lich_idx = index; lich_part = part; frame_number = n; end_of_stream = end; stream_data = s })) stream_parsed_of
+      (record { lich_idx = index; lich_part = part; frame_number = n; end_of_stream = end; stream_data = s })
   unfolding stream_parsed_of stream_symbols_of fields
-  stream_symbols_back =
-      ap (λ (b : Body). stream_parsed_of (symbols_from Stream b).symbols) stream_body_lem
-      ∙ simp (eq-eqb (length (frame_of (sync_of Stream) (masked coded_stream))) 192 (length_frame (sync_of Stream) (masked coded_stream)))
-      (ap stream_read_of (symbols_back (sync_of Stream) (masked coded_stream) (length-masked coded_stream) (masked_bytes coded_stream) refl) ∙ read_stream)
+  stream_symbols_back = (
+    frame_of (sync_of Stream) (masked coded_stream),
+    ap (symbols_from Stream) stream_body_lem,
+    simp (eq-eqb (length (frame_of (sync_of Stream) (masked coded_stream))) 192 (length_frame (sync_of Stream) (masked coded_stream)))
+        (ap stream_read_of (symbols_back (sync_of Stream) (masked coded_stream) (length-masked coded_stream) (masked_bytes coded_stream) refl) ∙ read_stream),
+  )
 
 -- ---- packet
 
@@ -246,42 +244,44 @@ module _ (counter : PacketFrameCounter) (s : List ℕ) (in_range : countable cou
   length_packet = length-append (payload_back counter s) (tag counter ∷ []) ∙ ap (λ (m : ℕ). m + 1) (length_kept counter s in_range long)
 
   coded_packet : List ℕ
-  coded_packet = (encoded_of Packet plain_packet).bytes
+  coded_packet = coded_of Packet plain_packet
 
-  packet_body_lem : packet_body_of counter s ≡ written (masked coded_packet)
+  packet_body_lem : packet_body_of counter s ≡ Ok (masked coded_packet)
   unfolding packet_body_of coded_packet plain_packet
   packet_body_lem = simp (eq-eqb (length s) 25 long, in_range, fields_are counter s)
 
-  decoded_packet : decoded_of Packet coded_packet ≡ decoded (plain_packet ++ replicate 4 0)
+  decoded_packet : decoded_of Packet coded_packet ≡ Ok (plain_packet ++ replicate 4 0)
   unfolding coded_packet plain_packet
   decoded_packet =
-      ap (decoded_of Packet) (sym (take_all 46 coded_packet (omega (arith, length_encoded Packet plain_packet length_packet))))
+      ap (decoded_of Packet) (sym (take_all 46 coded_packet (omega (arith, length_coded Packet plain_packet))))
       ∙ same_bytes Packet plain_packet length_packet
       (bytes_append (payload_back counter s) (tag counter ∷ []) (kept_bytes counter s bytes) (bytes_one (tag counter) (tag_is counter in_range).0))
       (last_zero (payload_back counter s) (tag counter) (length_kept counter s in_range long) (tag_is counter in_range).1)
 
-  fields_read : packet_from (decoded (plain_packet ++ replicate 4 0)) ≡ record { answer = Done; frame = record { payload = payload_back counter s; counter = counter } }
+  fields_read : packet_from (plain_packet ++ replicate 4 0) ≡ record { payload = payload_back counter s; counter = counter }
   unfolding plain_packet
   fields_read =
       let n = length_kept counter s in_range long in
-      ap₂ {C = PacketRead} (λ (p : List ℕ) (c : PacketFrameCounter). record { answer = Done; frame = record { payload = p; counter = c } })
+      ap₂ {C = PacketFrame} (λ (p : List ℕ) (c : PacketFrameCounter). record { payload = p; counter = c })
       (take-append-le 25 plain_packet (replicate 4 0) (omega (arith, length_packet)) ∙ take_at (payload_back counter s) (tag counter ∷ []) 25 n)
       (ap counter_from (padded_at 0 plain_packet 4 25 ∙ get_or_at (payload_back counter s) (tag counter) [] 0 25 n) ∙ (tag_is counter in_range).2)
 
-  read_packet : packet_read_of (masked coded_packet) ≡ record { answer = Done; frame = record { payload = payload_back counter s; counter = counter } }
+  read_packet : packet_read_of (masked coded_packet) ≡ Ok (record { payload = payload_back counter s; counter = counter })
   unfolding coded_packet
   read_packet =
       packet_long (masked coded_packet) (length-masked coded_packet)
-      ∙ ap (λ (c : List ℕ). packet_from (decoded_of Packet c)) (unmasked-masked coded_packet (encoded_bytes Packet plain_packet length_packet) (length_encoded Packet plain_packet length_packet))
-      ∙ ap packet_from decoded_packet ∙ fields_read
+      ∙ ap (λ (c : List ℕ). made_of packet_from (decoded_of Packet c)) (unmasked-masked coded_packet (coded_bytes_lem Packet plain_packet) (length_coded Packet plain_packet))
+      ∙ ap (made_of packet_from) decoded_packet ∙ ap {B = Result PacketFrame Refusal} Ok fields_read
 
-  pub packet_back : packet_read_of (packet_body_of counter s).bytes ≡ record { answer = Done; frame = record { payload = payload_back counter s; counter = counter } }
-  packet_back = ap (λ (b : Body). packet_read_of b.bytes) packet_body_lem ∙ read_packet
+  pub packet_back : Back (packet_body_of counter s) packet_read_of (record { payload = payload_back counter s; counter = counter })
+  packet_back = (masked coded_packet, packet_body_lem, read_packet)
 
-  pub packet_symbols_back : packet_parsed_of (packet_symbols_of (record { payload = s; counter = counter })).symbols
-      ≡ record { answer = Done; frame = record { payload = payload_back counter s; counter = counter } }
+  pub packet_symbols_back : Back (packet_symbols_of (record { payload = s; counter = counter })) packet_parsed_of
+      (record { payload = payload_back counter s; counter = counter })
   unfolding packet_parsed_of packet_symbols_of
-  packet_symbols_back =
-      ap (λ (b : Body). packet_parsed_of (symbols_from Packet b).symbols) packet_body_lem
-      ∙ simp (eq-eqb (length (frame_of (sync_of Packet) (masked coded_packet))) 192 (length_frame (sync_of Packet) (masked coded_packet)))
-      (ap packet_read_of (symbols_back (sync_of Packet) (masked coded_packet) (length-masked coded_packet) (masked_bytes coded_packet) refl) ∙ read_packet)
+  packet_symbols_back = (
+    frame_of (sync_of Packet) (masked coded_packet),
+    ap (symbols_from Packet) packet_body_lem,
+    simp (eq-eqb (length (frame_of (sync_of Packet) (masked coded_packet))) 192 (length_frame (sync_of Packet) (masked coded_packet)))
+        (ap packet_read_of (symbols_back (sync_of Packet) (masked coded_packet) (length-masked coded_packet) (masked_bytes coded_packet) refl) ∙ read_packet),
+  )

@@ -10,14 +10,16 @@ use lib.Ieee.{Float, nan, fin, div, neg, lt, round}
 use lib.ListN.{length, get_or, drop, length-drop}
 use lib.Seq.{drop_at, get_or-drop}
 use borrow.Author.Tests.{eq-eqb}
+use Rattle.std.specs.Prelude.{Result, Ok}
+use Rattle.refusal.specs.declared.Refusal.{Refusal}
 use Rattle.laws.specs.Value.{Bytes}
 use Rattle.laws.proofs.Values.{length-tabled, tabled_at}
 use Rattle.bits.specs.Bits.{bits_of, bytes_of}
 use Rattle.bits.proofs.Back.{bytes_bits, bytes_alike, drop_bits}
 use Rattle.fec.specs.declared.Kind.{Kind}
 use Rattle.fec.specs.declared.Kind.TheVariants.{Header, Stream, Packet}
-use Rattle.encode.specs.Symbols.{third, symbol_of, symbols_of, frame_of, sync_of, body_symbols_of}
-use Rattle.decode.specs.Symbols.{body_read, edge, pair_of, pairs_of, body_from, body_read_of}
+use Rattle.encode.specs.Symbols.{third, symbol_of, symbols_of, frame_of, sync_of}
+use Rattle.decode.specs.Symbols.{edge, pair_of, pairs_of, body_from, body_read_of}
 use Rattle.decode.proofs.Pairs.{pair_at}
 
 -- the exact round trip of two bits through an f32
@@ -95,8 +97,8 @@ sync_long Stream = refl
 sync_long Packet = refl
 
 -- 46 bytes written as symbols, of any kind, read as those bytes
-pub body_back : (kind : Kind) (body : List ℕ) → length body ≡ 46 → Bytes body → body_read_of (body_symbols_of kind body).symbols ≡ body_read body
-unfolding body_symbols_of body_read_of
+pub body_back : (kind : Kind) (body : List ℕ) → length body ≡ 46 → Bytes body → body_read_of (frame_of (sync_of kind) body) ≡ Ok body
+unfolding body_read_of
 body_back kind body long bytes =
-    simp (eq-eqb (length body) 46 long, eq-eqb (length (frame_of (sync_of kind) body)) 192 (length_frame (sync_of kind) body))
-    (ap body_read (symbols_back (sync_of kind) body long bytes (sync_long kind)))
+    simp (eq-eqb (length (frame_of (sync_of kind) body)) 192 (length_frame (sync_of kind) body))
+    (ap {B = Result (List ℕ) Refusal} Ok (symbols_back (sync_of kind) body long bytes (sync_long kind)))

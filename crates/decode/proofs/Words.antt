@@ -9,7 +9,7 @@ use lib.Pow.{mod-mod-pow}
 use lib.ListN.{length, get_or, take, drop, length-take, length-drop}
 use lib.Seq.{get_or-take, get_or-drop}
 use Rattle.laws.specs.Value.{value_of, in_bytes}
-use Rattle.golay.specs.declared.Reading.TheVariants.{Data}
+use Rattle.std.specs.Prelude.{Ok}
 use Rattle.golay.specs.Golay.{decoded_of}
 use Rattle.golay.proofs.Only.{reads, over}
 
@@ -59,7 +59,7 @@ first_five v =
     simp (c, d, e)
 
 -- what a Golay word reads as has 12 bits
-pub data_lt : (w d : ℕ) → decoded_of w ≡ Data d → d < 4096
+pub data_lt : (w d : ℕ) → decoded_of w ≡ Ok d → d < 4096
 data_lt w d e = elim (dec_lt w (2 ^ 24)) [
   | yes h ↦ ((reads w h).answered d e).0
   | no n ↦ let r = over w (omega arith) in let z : ◌≡◌ {A = ℕ} 0 1 = cc in absurd (omega arith)

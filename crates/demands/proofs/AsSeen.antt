@@ -10,11 +10,13 @@ use lib.ListN.{length, take, drop, replicate}
 use lib.Seq.{take_at}
 use borrow.Author.Tests.{eq-eqb, ne_eqb, eqb-true, eqb-false, le-leb}
 use Rattle.laws.specs.Value.{value_of}
+use Rattle.std.specs.Prelude.{Result, Ok, Err}
+use Rattle.refusal.specs.declared.Refusal.{Refusal}
 use Rattle.refusal.specs.declared.Refusal.TheVariants.{BadHeader, WrongLength, UnknownSync}
-use Rattle.refusal.specs.declared.Verdict.{Verdict}
-use Rattle.refusal.specs.declared.Verdict.TheVariants.{Done, Refused}
 use Rattle.crc.specs.Crc.{crc}
+use Rattle.protocol.specs.declared.LsfFrame.{LsfFrame}
 use Rattle.protocol.specs.declared.StreamFrame.{StreamFrame}
+use Rattle.protocol.specs.declared.PacketFrame.{PacketFrame}
 use Rattle.protocol.specs.declared.PacketFrameCounter.{PacketFrameCounter}
 use Rattle.protocol.specs.declared.PacketFrameCounter.TheVariants.{Frame, FinalFrame}
 use Rattle.decode.specs.Bodies.{lsf_read_of, stream_read_of, packet_read_of}
@@ -27,9 +29,8 @@ use Rattle.automaton.specs.Demand3.{Bounded}
 use Rattle.automaton.proofs.Bounds.{bounded, memory_long}
 use Rattle.receiver.specs.declared.Receiver.{Receiver}
 use Rattle.receiver.specs.declared.Received.{Received}
-use Rattle.receiver.specs.declared.Answer.TheVariants as Answers
-use Rattle.receiver.specs.See.{header_by, stream_by, packet_by, seen_by, see}
-use Rattle.receiver.specs.Receiver.{state_of, within, phase_for, receiver_for, answer_for, header_for, stream_for, no_header, no_stream, unchanged, taken, received_of, memory_of}
+use Rattle.receiver.specs.See.{header_seen, stream_seen, counted, packet_seen, seen_by, see}
+use Rattle.receiver.specs.Receiver.{state_of, within, phase_for, receiver_for, answer_for, unchanged, taken, received_of, memory_of}
 use Rattle.receiver.specs.Runs.{Fed, start, ◌▹◌, Held, fed, after, handed_out_bytes, hearing, Heard, heard, heard_by, seen_of}
 use Rattle.demands.specs.Slots.{holding}
 
@@ -39,27 +40,27 @@ either : (b : Bool) (x y : Seen) → Sound x → Sound y → Sound (cond b x y)
 either true x y p q = p
 either false x y p q = q
 
-header_sound : (v : Verdict) (h : List ℕ) → length h ≡ 30 → Sound (header_by v h)
-header_sound Done h e = either (eqb (crc h) 0) (head h) (unread BadHeader) e tt
-header_sound (Refused why) h e = tt
+header_sound : (r : Result LsfFrame Refusal) → ((f : LsfFrame) → r ≡ Ok f → length f.bytes ≡ 30) → Sound (header_seen r)
+header_sound (Ok f) o = either (eqb (crc f.bytes) 0) (head f.bytes) (unread BadHeader) (o f refl) tt
+header_sound (Err why) o = tt
 
-stream_sound : (v : Verdict) (f : StreamFrame) → f.lich_idx < 8 → length f.lich_part ≡ 5 → Sound (stream_by v f)
-stream_sound Done f c e = (omega arith, e)
-stream_sound (Refused why) f c e = tt
+stream_sound : (r : Result StreamFrame Refusal) → ((f : StreamFrame) → r ≡ Ok f → (f.lich_idx < 8) × (length f.lich_part ≡ 5)) → Sound (stream_seen r)
+stream_sound (Ok f) o = (omega (arith, (o f refl).0), (o f refl).1)
+stream_sound (Err why) o = tt
 
-packet_sound : (v : Verdict) (c : PacketFrameCounter) (b : List ℕ) → number_in c < 32 → length b ≡ 25 → Sound (packet_by v c b)
-packet_sound Done (Frame k) b n e = (omega arith, e)
-packet_sound Done (FinalFrame len) b n e = (omega arith, e)
-packet_sound (Refused why) c b n e = tt
+counted_sound : (c : PacketFrameCounter) (b : List ℕ) → number_in c < 32 → length b ≡ 25 → Sound (counted c b)
+counted_sound (Frame k) b n e = (omega arith, e)
+counted_sound (FinalFrame len) b n e = (omega arith, e)
+
+packet_sound : (r : Result PacketFrame Refusal) → ((f : PacketFrame) → r ≡ Ok f → (number_in f.counter < 32) × (length f.payload ≡ 25)) → Sound (packet_seen r)
+packet_sound (Ok f) o = counted_sound f.counter f.payload (o f refl).0 (o f refl).1
+packet_sound (Err why) o = tt
 
 sound_by : (sync : ℕ) (body : List ℕ) → Sound (seen_by sync body)
 sound_by sync body =
-    let h = lsf_read_of body in
-    let t = stream_read_of body in
-    let p = packet_read_of body in
-    either (eqb sync 0x55F7) _ _ (header_sound h.answer h.frame.bytes (lsf_range body).long)
-    (either (eqb sync 0xFF5D) _ _ (stream_sound t.answer t.frame (stream_range body).index (stream_range body).part.long)
-    (either (eqb sync 0x75FF) _ _ (packet_sound p.answer p.frame.counter p.frame.payload (packet_range body).number (packet_range body).payload.long)
+    either (eqb sync 0x55F7) _ _ (header_sound (lsf_read_of body) (λ f e. (lsf_range body f e).long))
+    (either (eqb sync 0xFF5D) _ _ (stream_sound (stream_read_of body) (λ f e. let r = stream_range body f e in (r.index, r.part.long)))
+    (either (eqb sync 0x75FF) _ _ (packet_sound (packet_read_of body) (λ f e. let r = packet_range body f e in (r.number, r.payload.long)))
     (either (eqb sync 0x555D) end (unread UnknownSync) tt tt)))
 
 pub sound : (x : List ℕ) → Sound (see x)
@@ -107,7 +108,7 @@ module _ (st : State) (m x : List ℕ) where
 
 -- what the automaton says, in the code's values
 abbrev pub heard_for : Said → Heard
-heard_for s = record { answer = answer_for s.answer; header = header_for s.answer; stream = stream_for s.answer; bytes = s.bytes }
+heard_for s = record { answer = answer_for s.answer; bytes = s.bytes }
 
 handed_is : (a : Answer) (m : List ℕ) → handed_out_bytes (answer_for a) m ≡ handed a m
 handed_is (step.header h) m = refl
@@ -119,7 +120,7 @@ handed_is (step.refused why) m = refl
 
 -- what is heard at a slot of another length than 48
 abbrev pub no_slot : Heard
-no_slot = record { answer = Answers.Refused WrongLength; header = no_header; stream = no_stream; bytes = [] }
+no_slot = record { answer = Err WrongLength; bytes = [] }
 
 module _ (m : List ℕ) (room : length m ≡ 825) where
   pub after_is : (past : Fed) → after m past ≡ holding (state (seen_of past)) (memory m (seen_of past))
@@ -152,8 +153,7 @@ module _ (m : List ℕ) (room : length m ≡ 825) where
       let full = memory_long m (seen_of past) (all_sound past) room in
       ap (λ (h : Held). heard_by h x) (after_is past)
       ∙ ap₂ hearing (received_is st mem x o full long) (memory_is st mem x o full long)
-      ∙ ap (λ (b : List ℕ). record { answer = answer_for (answer st mem (see x)); header = header_for (answer st mem (see x)); stream = stream_for (answer st mem (see x)); bytes = b })
-      (handed_is (answer st mem (see x)) (kept st mem (see x)))
+      ∙ ap (λ (b : List ℕ). record { answer = answer_for (answer st mem (see x)); bytes = b }) (handed_is (answer st mem (see x)) (kept st mem (see x)))
 
   pub heard_none : (past : Fed) (x : List ℕ) → (length x ≡ 48 → ⊥) → heard m past x ≡ no_slot
   heard_none past x n =

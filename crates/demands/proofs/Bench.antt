@@ -8,12 +8,15 @@ use lib.Count.{ones_in}
 use lib.ListN.{replicate}
 use Rattle.laws.specs.Division.{reduce, rem}
 use Rattle.laws.specs.Value.{value_of, in_bytes}
+use Rattle.std.specs.Prelude.{Result, Ok, Err}
+use Rattle.std.specs.Result.{result_unwrap_or}
 use Rattle.refusal.specs.Number.{number_of}
+use Rattle.refusal.specs.declared.Refusal.{Refusal}
 use Rattle.crc.specs.Crc.{crc_from, crc}
 use Rattle.interleave.specs.Interleave.{mapped}
 use Rattle.address.specs.declared.Address.TheVariants.{Invalid, Callsign, Reserved, Broadcast}
-use Rattle.address.specs.declared.Heard.TheVariants.{Read, Refused}
-use Rattle.address.specs.declared.Heard.{Heard}
+use Rattle.address.specs.declared.Address.{Address}
+use Rattle.address.specs.declared.Reading.{Reading}
 use Rattle.address.specs.Callsign.{alphabet, character, callsign_of, upper, place_in, digit_of, known, blank, callsign_value}
 use Rattle.address.specs.Address.{encoded_of, decoded_of, address_of}
 use Rattle.golay.specs.Golay.{golay}
@@ -23,25 +26,38 @@ use Rattle.fec.specs.Kinds as coding
 use Rattle.bits.specs.Bits.{bits_of, bytes_of}
 
 -- an address as numbers: 0 invalid, 1 callsign, 2 reserved with its value, 3 broadcast
-abbrev spoken : Heard → List ℕ
-spoken (Read Invalid) = 0 ∷ []
-spoken (Read Callsign) = 1 ∷ []
-spoken (Read (Reserved v)) = 2 ∷ v ∷ []
-spoken (Read Broadcast) = 3 ∷ []
-spoken (Refused why) = 4 ∷ number_of why ∷ []
+abbrev kind_and_value : Address → List ℕ
+kind_and_value Invalid = 0 ∷ []
+kind_and_value Callsign = 1 ∷ []
+kind_and_value (Reserved v) = 2 ∷ v ∷ []
+kind_and_value Broadcast = 3 ∷ []
+
+-- and 4 with the number of a refusal
+abbrev spoken : Result Reading Refusal → List ℕ
+spoken (Ok r) = kind_and_value r.address
+spoken (Err why) = 4 ∷ number_of why ∷ []
+
+-- the nine characters beside it
+abbrev characters : Result Reading Refusal → List ℕ
+characters (Ok r) = r.callsign
+characters (Err why) = []
+
+-- the bytes of an answer
+abbrev bytes_in : Result (List ℕ) Refusal → List ℕ
+bytes_in r = result_unwrap_or r []
 
 unfoldable pub computed : List (List ℕ)
 computed =
     (crc [] ∷ crc (65 ∷ []) ∷ crc (49 ∷ 50 ∷ 51 ∷ 52 ∷ 53 ∷ 54 ∷ 55 ∷ 56 ∷ 57 ∷ []) ∷ [])
-    ∷ (encoded_of Callsign (65 ∷ 66 ∷ 49 ∷ 67 ∷ 68 ∷ 32 ∷ 32 ∷ 32 ∷ 32 ∷ [])).bytes
-    ∷ (decoded_of (0x00 ∷ 0x00 ∷ 0x00 ∷ 0x9F ∷ 0xDD ∷ 0x51 ∷ [])).callsign
-    ∷ spoken (decoded_of (in_bytes 6 (40 ^ 9 - 1))).answer
-    ∷ spoken (decoded_of (in_bytes 6 (40 ^ 9))).answer
+    ∷ bytes_in (encoded_of Callsign (65 ∷ 66 ∷ 49 ∷ 67 ∷ 68 ∷ 32 ∷ 32 ∷ 32 ∷ 32 ∷ []))
+    ∷ characters (decoded_of (0x00 ∷ 0x00 ∷ 0x00 ∷ 0x9F ∷ 0xDD ∷ 0x51 ∷ []))
+    ∷ spoken (decoded_of (in_bytes 6 (40 ^ 9 - 1)))
+    ∷ spoken (decoded_of (in_bytes 6 (40 ^ 9)))
     ∷ (golay 0 ∷ golay 1 ∷ [])
     ∷ (mapped 1 ∷ mapped 137 ∷ [])
-    ∷ (coding.encoded_of Header (0x80 ∷ replicate 29 0)).bytes
-    ∷ (coding.encoded_of Stream (0x80 ∷ replicate 17 0)).bytes
-    ∷ (coding.encoded_of Packet (0x80 ∷ replicate 25 0)).bytes
+    ∷ bytes_in (coding.encoded_of Header (0x80 ∷ replicate 29 0))
+    ∷ bytes_in (coding.encoded_of Stream (0x80 ∷ replicate 17 0))
+    ∷ bytes_in (coding.encoded_of Packet (0x80 ∷ replicate 25 0))
     ∷ (crc (65 ∷ 0x20 ∷ 0x6E ∷ []) ∷ crc (replicate 28 0 ++ (0x95 ∷ 0xE0 ∷ [])) ∷ [])
     ∷ []
 
@@ -61,5 +77,5 @@ given =
     ∷ []
 
 pub bench : computed ≡ given
-unfolding computed given crc crc_from rem reduce value_of in_bytes encoded_of decoded_of address_of callsign_of character known blank callsign_value digit_of place_in alphabet upper golay ones_in mapped coding.encoded_of bits_of bytes_of sends coded code
+unfolding computed given crc crc_from rem reduce value_of in_bytes encoded_of decoded_of address_of callsign_of character known blank callsign_value digit_of place_in alphabet upper golay ones_in mapped coding.encoded_of coding.coded_of bits_of bytes_of sends coded code
 bench = refl

@@ -7,6 +7,7 @@ use native.Mathlib.Omega.{arith}
 use lib.ListN.{length, take, drop, replicate, length-append, length-drop, length-replicate, take-append-drop}
 use lib.Seq.{length-take-le, take_at, drop-drop}
 use borrow.Author.Tests.{eq-eqb, le-leb}
+use Rattle.std.specs.Prelude.{Ok}
 use Rattle.laws.specs.Value.{Bytes}
 use Rattle.laws.proofs.Bytes.{bytes_append, bytes_take, bytes_drop, bytes_zeros}
 use Rattle.crc.specs.Crc.{crc}
@@ -17,7 +18,7 @@ use Rattle.automaton.proofs.Demand3.{over_seen}
 use Rattle.receiver.specs.declared.Late.TheVariants as Lates
 use Rattle.receiver.specs.declared.Answer.TheVariants as Answers
 use Rattle.receiver.specs.See.{see}
-use Rattle.receiver.specs.Receiver.{no_header, no_stream, answer_for, header_for}
+use Rattle.receiver.specs.Receiver.{answer_for}
 use Rattle.receiver.specs.Runs.{Fed, ◌▹◌, ◌▹▹◌, Heard, heard, seen_of}
 use Rattle.demands.specs.Frames.{Header, Stream, Packet as PacketGood, trimmed}
 use Rattle.demands.specs.Slots.{header_slot, stream_slot, packet_slot, sent_frame, sent_slots, InRange, fulls, frame_at, rest, last_frame, frame_slots}
@@ -49,15 +50,15 @@ module _ (h : List ℕ) (f : ℕ → Fields) (o : Header (record { bytes = h }))
 
   module _ (m : List ℕ) (past : Fed) (i : ℕ) (room : length m ≡ 825) (good : crc h ≡ 0) where
     pub eleven : (j : ℕ) × (j < 11)
-        × ((heard m (past ▹▹ sent_slots h f i j) (stream_slot (sent_frame h f (i + j)))).answer ≡ Answers.Stream Lates.Header)
-        × ((heard m (past ▹▹ sent_slots h f i j) (stream_slot (sent_frame h f (i + j)))).header ≡ h)
+        × ((heard m (past ▹▹ sent_slots h f i j) (stream_slot (sent_frame h f (i + j)))).answer
+        ≡ Ok (Answers.Stream (sent_frame h f (i + j)) (Lates.Header h)))
     eleven =
         let (j, few, said_is) = over_seen.eleven m (seen_of past) h f i o.long good in
         let frame = sent_frame h f (i + j) in
         let is = heard_is m room (past ▹▹ sent_slots h f i j) (stream_slot frame) (stream_slot_lem frame (in_range (i + j))) in
         let gone = seen_more past (sent_slots h f i j) ∙ ap (λ (more : List Seen). seen_of past ▸▸ more) (sent_says i j) in
         let a = ap₂ (λ (p : Slots) (s : Seen). (said m p s).answer) gone (stream_seen_lem frame (in_range (i + j))) ∙ said_is in
-        (j, few, ap (λ (k : Heard). k.answer) is ∙ ap answer_for a, ap (λ (k : Heard). k.header) is ∙ ap header_for a)
+        (j, few, ap (λ (k : Heard). k.answer) is ∙ ap answer_for a)
 
 -- the pieces of a packet's bytes p: n from the i-th on
 pieces_of : List ℕ → ℕ → ℕ → List (List ℕ)
@@ -142,7 +143,7 @@ module _ (p : List ℕ) (some : 3 ≤ length p) (few : length p ≤ 825) (bytes 
         all = let e : fulls p ≡ 0 + fulls p = omega arith in ap (λ (k : ℕ). runs.join (pieces_of p 0 (fulls p)) ++ drop (25 * k) p) e ∙ pieces_joined p 0 (fulls p)
 
     pub clean_packet : heard m (past ▹ header_slot h ▹▹ frame_slots p 0 (fulls p)) (packet_slot (last_frame p))
-        ≡ record { answer = Answers.Packet (length p); header = no_header; stream = no_stream; bytes = p }
+        ≡ record { answer = Ok (Answers.Packet (length p)); bytes = p }
     clean_packet =
         let fed = past ▹ header_slot h ▹▹ frame_slots p 0 (fulls p) in
         let x = packet_slot (last_frame p) in

@@ -3,59 +3,41 @@ use mathlib.Core.Path.{◌≡◌, refl, sym, ap, ◌∙◌, subst}
 use mathlib.Core.Logic.{inl, inr}
 use mathlib.Core.Bool.{Bool, true, false, cond, ◌&&◌}
 use mathlib.Core.List.{List, [], ◌∷◌}
-use mathlib.Core.Option.{Option, some, none}
-use Prim.Native.Nat.{ℕ, ◌*◌}
+use Prim.Native.Nat.{ℕ, ◌*◌, ◌≤◌}
 use native.Mathlib.Decide.{ℕ_discrete}
 use native.Mathlib.Omega.{arith}
-use lib.Dec.{eqb, leb}
-use lib.IntN.{pos}
-use lib.Ieee.{Float, fin}
-use lib.ListN.{length, replicate}
+use lib.Dec.{eqb}
+use lib.Ieee.{Float}
+use lib.ListN.{length}
 use borrow.Author.Tests.{eq-eqb, ne_eqb, eqb-true, lt-ltb, le-ltb}
 use Rattle.refusal.specs.Number.{number_of, said_of}
 use Rattle.refusal.specs.declared.Refusal.{Refusal}
-use Rattle.refusal.specs.declared.Refusal.TheVariants.{WrongLength, OutOfRange, OutOfTurn, BadFinal, TooShort, BadPacket, BadState}
-use Rattle.refusal.specs.declared.Verdict.{Verdict}
-use Rattle.refusal.specs.declared.Verdict.TheVariants.{Done, Refused}
+use Rattle.refusal.specs.declared.Refusal.TheVariants.{WrongLength, OutOfTurn, BadFinal, TooShort, BadPacket, BadState}
+use Rattle.std.specs.Prelude.{⊤, Option, Some, None, Result, Ok, Err}
 use Rattle.refusal.proofs.Different.{different}
 use Rattle.bits.specs.Bits.{bits_of}
 use Rattle.bits.specs.Places as bits
 use Rattle.bits.proofs.Getting as getting
 use Rattle.bits.proofs.Setting as setting
-use Rattle.interleave.specs.declared.Interleaved.{Interleaved}
 use Rattle.interleave.specs.Interleave.{interleaved_of}
 use Rattle.interleave.proofs.Twice as interleaving
-use Rattle.address.specs.declared.Address.{Address}
-use Rattle.address.specs.declared.Heard.TheVariants as heard
-use Rattle.address.specs.declared.Reading.{Reading}
-use Rattle.address.specs.declared.Written.{Written}
 use Rattle.address.specs.Address as address
-use Rattle.address.proofs.EachKind.{read_short}
 use Rattle.address.proofs.Exactly as addresses
 use Rattle.golay.proofs.Only as golay
 use Rattle.fec.specs.declared.Kind.{Kind}
-use Rattle.fec.specs.declared.Kind.TheVariants as kind
-use Rattle.fec.specs.declared.Coded.{Coded}
 use Rattle.fec.specs.Kinds as fec
 use Rattle.fec.specs.Nearest.{read_of}
 use Rattle.fec.proofs.Bodies.{encoded_long, encoded_short, decoded_long, decoded_short}
 use Rattle.fec.proofs.When as when
 use Rattle.protocol.specs.declared.LichCollection.{LichCollection}
-use Rattle.protocol.specs.declared.LsfFrame.{LsfFrame}
-use Rattle.protocol.specs.declared.StreamFrame.{StreamFrame}
-use Rattle.protocol.specs.declared.PacketFrame.{PacketFrame}
-use Rattle.protocol.specs.declared.PacketFrameCounter.{PacketFrameCounter}
-use Rattle.protocol.specs.Lich.{part_said, with_part, collected, set_of}
-use Rattle.protocol.specs.Fields.{channel_bits, set_field}
-use Rattle.protocol.specs.Header.{answered, new_said, new_bytes}
+use Rattle.protocol.specs.Lich.{part_said, after_set}
+use Rattle.protocol.specs.Header.{from_of, address_set_of, channel_set_of, new_of}
 use Rattle.protocol.proofs.Exactly as headers
-use Rattle.encode.specs.declared.Lich.{Lich}
-use Rattle.encode.specs.declared.Body.{Body}
 use Rattle.encode.specs.Lich.{lich_of}
-use Rattle.encode.specs.Bodies.{written, unwritten, lsf_body_of, stream_body_of, countable, packet_body_of}
-use Rattle.encode.specs.Symbols.{symbols_by, symbols_from, body_symbols_of, lsf_symbols_of, stream_symbols_of, packet_symbols_of}
+use Rattle.encode.specs.Bodies.{lsf_body_of, stream_body_of, packet_body_of}
+use Rattle.encode.specs.Symbols.{body_symbols_of, lsf_symbols_of, stream_symbols_of, packet_symbols_of}
 use Rattle.encode.proofs.Exactly as writing
-use Rattle.decode.specs.Bodies.{lsf_read_of, no_lsf, stream_read_of, no_stream, packet_read_of, no_packet}
+use Rattle.decode.specs.Bodies.{lsf_read_of, stream_read_of, packet_read_of}
 use Rattle.decode.specs.Symbols.{body_from, body_read_of, initial_of, lsf_parsed_of, stream_parsed_of, packet_parsed_of}
 use Rattle.decode.specs.When.{OneOf}
 use Rattle.decode.proofs.LichWhen.{lich_when}
@@ -68,12 +50,11 @@ use Rattle.automaton.proofs.ByAnswer.{by_answer}
 use Rattle.automaton.proofs.Verdicts.{by_verdict}
 use Rattle.automaton.proofs.Refusals.{told_only}
 use Rattle.receiver.specs.declared.Receiver.{Receiver}
-use Rattle.receiver.specs.declared.Answer.TheVariants as Answers
 use Rattle.receiver.specs.declared.Received.{Received}
 use Rattle.receiver.specs.See.{see}
 use Rattle.receiver.specs.Receiver.{state_of, within, fits, unchanged, taken, received_of, memory_of}
-use Rattle.demands.specs.Demand1.{zeros, ByLength, Demand1}
-use Rattle.demands.proofs.Alone.{some_number, Alone, unread_number}
+use Rattle.demands.specs.Demand1.{ByLength, NoData, Demand1}
+use Rattle.demands.proofs.Alone.{Alone, unread_number}
 use Rattle.demands.proofs.EachSlot.{refused_only, refused_1, refused_12}
 
 -- ---- leaves
@@ -82,112 +63,29 @@ set_said : (s : List ℕ) (i : ℕ) (b : Bool) → bits.within s i ≡ b → sai
 set_said s i true e = rw e
 set_said s i false e = rw e
 
-coded : (k : Kind) (d : List ℕ) → ByLength (length d) (fec.data_bytes k) (said_of (fec.encoded_of k d).answer)
-coded k d = (λ n. ap (λ (c : Coded). said_of c.answer) (encoded_short k d n), λ e. ap (λ (c : Coded). said_of c.answer) (encoded_long k d e))
+coded : (k : Kind) (d : List ℕ) → ByLength (length d) (fec.data_bytes k) (said_of (fec.encoded_of k d))
+coded k d = (λ n. ap said_of (encoded_short k d n), λ e. ap said_of (encoded_long k d e))
 
-part_untouched : (c : ℕ) (part : List ℕ) (l : LichCollection) (why : Refusal) → (set_of c part l).answer ≡ Refused why → (set_of c part l).collection ≡ l
-part_untouched c part l why = by (part_said c part)
-  where
-    by : (v : Verdict) → (collected v l (with_part c part l)).answer ≡ Refused why → (collected v l (with_part c part l)).collection ≡ l
-    by Done e = never (cc)
-    by (Refused w) e = refl
+part_untouched : (c : ℕ) (part : List ℕ) (l : LichCollection) (why : Refusal) → part_said c part ≡ Err why → after_set c part l ≡ l
+part_untouched c part l why e = rw e
 
--- ---- a refusal carries no data
-
-module _ (why : Refusal) where
-  interleave_none : (s : List ℕ) → (interleaved_of s).answer ≡ Refused why → (interleaved_of s).bytes ≡ replicate 46 0
-  unfolding interleaved_of
-  interleave_none s = by_test (λ (r : Interleaved). r.answer ≡ Refused why → r.bytes ≡ replicate 46 0) (eqb (length s) 46) (λ t e. never (cc)) (λ t e. refl)
-
-  address_read_none : (s : List ℕ) → (address.decoded_of s).answer ≡ heard.Refused why → (address.decoded_of s).callsign ≡ replicate 9 0
-  address_read_none s e = elim (ℕ_discrete (length s) 6) [
-    | yes l ↦ absurd (some_number why (sym (ap address.number_of_heard e) ∙ (addresses.read_exactly s).read_if l))
-    | no n ↦ ap (λ (r : Reading). r.callsign) (read_short s n)
-  ]
-
-  address_written_none : (a : Address) (s : List ℕ) → (address.encoded_of a s).answer ≡ Refused why → (address.encoded_of a s).bytes ≡ replicate 6 0
-  unfolding address.encoded_of
-  address_written_none a s = by_test Here (eqb (length s) 9) (λ t. by_test Here (address.writable a s) (λ u e. never (cc)) (λ u e. refl)) (λ t e. refl)
-    where
-      Here : Written → Type 0
-      Here r = r.answer ≡ Refused why → r.bytes ≡ replicate 6 0
-
-  coded_none : (k : Kind) (d : List ℕ) → (fec.encoded_of k d).answer ≡ Refused why → (fec.encoded_of k d).bytes ≡ replicate 46 0
-  unfolding fec.encoded_of
-  coded_none k d =
-      by_test (λ (r : Coded). r.answer ≡ Refused why → r.bytes ≡ replicate 46 0) (eqb (length d) (fec.data_bytes k)) (λ t e. never (cc)) (λ t e. refl)
-
-  header_none : (v : Verdict) (s : List ℕ) → (answered v s).answer ≡ Refused why → (answered v s).header.bytes ≡ replicate 30 0
-  header_none Done s e = never (cc)
-  header_none (Refused w) s e = refl
-
-  lich_none : (c : ℕ) (part : List ℕ) → (lich_of c part).answer ≡ Refused why → (lich_of c part).bytes ≡ replicate 12 0
-  unfolding lich_of
-  lich_none c part = by_test Here (eqb (length part) 5) (λ t. by_test Here (leb c 5) (λ u e. never (cc)) (λ u e. refl)) (λ t e. refl)
-    where
-      Here : Lich → Type 0
-      Here r = r.answer ≡ Refused why → r.bytes ≡ replicate 12 0
-
-  abbrev Blank : Body → Type 0
-  Blank r = r.answer ≡ Refused why → r.bytes ≡ replicate 46 0
-
-  header_written_none : (s : List ℕ) → Blank (lsf_body_of s)
-  unfolding lsf_body_of
-  header_written_none s = by_test Blank (eqb (length s) 30) (λ t e. never (cc)) (λ t e. refl)
-
-  stream_written_none : (i : ℕ) (part : List ℕ) (f : ℕ) (last : Bool) (s : List ℕ) → Blank (stream_body_of i part f last s)
-  unfolding stream_body_of
-  stream_written_none i part f last s =
-      by_test Blank (eqb (length part) 5 && eqb (length s) 16) (λ t. by_test Blank (leb i 5 && leb f 32767) (λ u e. never (cc)) (λ u e. refl)) (λ t e. refl)
-
-  packet_written_none : (c : PacketFrameCounter) (s : List ℕ) → Blank (packet_body_of c s)
-  unfolding packet_body_of
-  packet_written_none c s = by_test Blank (eqb (length s) 25) (λ t. by_test Blank (countable c) (λ u e. never (cc)) (λ u e. refl)) (λ t e. refl)
-
-  sent_none : (k : Kind) (b : Body) → (symbols_from k b).answer ≡ Refused why → (symbols_from k b).symbols ≡ replicate 192 (fin false 0 (pos 0))
-  sent_none k b = by b.answer
-    where
-      by : (v : Verdict) → (symbols_by v k b.bytes).answer ≡ Refused why → (symbols_by v k b.bytes).symbols ≡ replicate 192 (fin false 0 (pos 0))
-      by Done e = never (cc)
-      by (Refused w) e = refl
-
-module _ (why : Refusal) where
-  body_sent_none : (k : Kind) (body : List ℕ) → (body_symbols_of k body).answer ≡ Refused why → (body_symbols_of k body).symbols ≡ zeros
-  unfolding body_symbols_of
-  body_sent_none k body = sent_none why k (cond (eqb (length body) 46) (written body) (unwritten WrongLength))
-
-  header_sent_none : (f : LsfFrame) → (lsf_symbols_of f).answer ≡ Refused why → (lsf_symbols_of f).symbols ≡ zeros
-  unfolding lsf_symbols_of
-  header_sent_none f = sent_none why kind.Header (lsf_body_of f.bytes)
-
-  stream_sent_none : (f : StreamFrame) → (stream_symbols_of f).answer ≡ Refused why → (stream_symbols_of f).symbols ≡ zeros
-  unfolding stream_symbols_of
-  stream_sent_none f = sent_none why kind.Stream (stream_body_of f.lich_idx f.lich_part f.frame_number f.end_of_stream f.stream_data)
-
-  packet_sent_none : (f : PacketFrame) → (packet_symbols_of f).answer ≡ Refused why → (packet_symbols_of f).symbols ≡ zeros
-  unfolding packet_symbols_of
-  packet_sent_none f = sent_none why kind.Packet (packet_body_of f.counter f.payload)
-
-  body_parsed_none : (xs : List Float) → (body_read_of xs).answer ≡ Refused why → (body_read_of xs).bytes ≡ replicate 46 0
-  unfolding body_read_of
-  body_parsed_none xs = by_test (Blank why) (eqb (length xs) 192) (λ t e. never (cc)) (λ t e. refl)
-
-  body_initial_none : (xs : List Float) → (initial_of xs).answer ≡ Refused why → (initial_of xs).bytes ≡ replicate 46 0
-  unfolding initial_of
-  body_initial_none xs = by_test (Blank why) (eqb (length xs) 192) (λ t e. never (cc)) (λ t e. refl)
+-- a refusal carries no data
+no_data : {A : Type 0} (r : Result A Refusal) → NoData r
+no_data (Ok y) x why e f = never (cc)
+no_data (Err w) x why e f = never (cc)
 
 -- ---- symbols
 
 module _ (xs : List Float) where
-  body_parsed : ByLength (length xs) 192 (said_of (body_read_of xs).answer)
+  body_parsed : ByLength (length xs) 192 (said_of (body_read_of xs))
   unfolding body_read_of
   body_parsed = (λ n. rw (ne_eqb (length xs) 192 n), λ e. rw (eq-eqb (length xs) 192 e))
 
-  body_initial : ByLength (length xs) 192 (said_of (initial_of xs).answer)
+  body_initial : ByLength (length xs) 192 (said_of (initial_of xs))
   unfolding initial_of
   body_initial = (λ n. rw (ne_eqb (length xs) 192 n), λ e. rw (eq-eqb (length xs) 192 e))
 
-  header_parsed_1 : (length xs ≡ 192 → ⊥) → lsf_parsed_of xs ≡ no_lsf WrongLength
+  header_parsed_1 : (length xs ≡ 192 → ⊥) → lsf_parsed_of xs ≡ Err WrongLength
   unfolding lsf_parsed_of
   header_parsed_1 n = rw (ne_eqb (length xs) 192 n)
 
@@ -195,7 +93,7 @@ module _ (xs : List Float) where
   unfolding lsf_parsed_of
   header_parsed e = rw (eq-eqb (length xs) 192 e)
 
-  stream_parsed_1 : (length xs ≡ 192 → ⊥) → stream_parsed_of xs ≡ no_stream WrongLength
+  stream_parsed_1 : (length xs ≡ 192 → ⊥) → stream_parsed_of xs ≡ Err WrongLength
   unfolding stream_parsed_of
   stream_parsed_1 n = rw (ne_eqb (length xs) 192 n)
 
@@ -203,7 +101,7 @@ module _ (xs : List Float) where
   unfolding stream_parsed_of
   stream_parsed e = rw (eq-eqb (length xs) 192 e)
 
-  packet_parsed_1 : (length xs ≡ 192 → ⊥) → packet_parsed_of xs ≡ no_packet WrongLength
+  packet_parsed_1 : (length xs ≡ 192 → ⊥) → packet_parsed_of xs ≡ Err WrongLength
   unfolding packet_parsed_of
   packet_parsed_1 n = rw (ne_eqb (length xs) 192 n)
 
@@ -224,24 +122,35 @@ wider n (inr (inr (inl e))) = inr (inr (inl e))
 wider n (inr (inr (inr (inl e)))) = inr (inr (inr (inl e)))
 wider n (inr (inr (inr (inr x)))) = elim x [ ]
 
+of_slot : (n : ℕ) → OfSlot n → (3 ≤ n) × (n ≤ 11)
+of_slot n (inl e) = rw e (omega arith, omega arith)
+of_slot n (inr (inl e)) = rw e (omega arith, omega arith)
+of_slot n (inr (inr (inl e))) = rw e (omega arith, omega arith)
+of_slot n (inr (inr (inr (inl e)))) = rw e (omega arith, omega arith)
+of_slot n (inr (inr (inr (inr (inl e))))) = rw e (omega arith, omega arith)
+of_slot n (inr (inr (inr (inr (inr (inl e)))))) = rw e (omega arith, omega arith)
+of_slot n (inr (inr (inr (inr (inr (inr (inl e))))))) = rw e (omega arith, omega arith)
+of_slot n (inr (inr (inr (inr (inr (inr (inr (inl e)))))))) = rw e (omega arith, omega arith)
+of_slot n (inr (inr (inr (inr (inr (inr (inr (inr x)))))))) = elim x [ ]
+
 -- a final piece
-verdict_number : (n len sum : ℕ) (w : Refusal) → step.verdict n len sum ≡ Refused w → OfSlot (number_of w)
+verdict_number : (n len sum : ℕ) (w : Refusal) → step.verdict n len sum ≡ Err w → OfSlot (number_of w)
 verdict_number n len sum w =
-    by_verdict n len sum (λ v. v ≡ Refused w → OfSlot (number_of w)) (λ k e. nine e) (λ k e. ten e) (λ k e. eleven e) (λ k e. never (cc))
+    by_verdict n len sum (λ v. v ≡ Err w → OfSlot (number_of w)) (λ k e. nine e) (λ k e. ten e) (λ k e. eleven e) (λ k e. never (cc))
   where
-    nine : Refused BadFinal ≡ Refused w → OfSlot (number_of w)
+    nine : ◌≡◌ {A = Result ⊤ Refusal} (Err BadFinal) (Err w) → OfSlot (number_of w)
     nine e = let q : BadFinal ≡ w = cc in inr (inr (inr (inr (inr (inl (sym (ap number_of q)))))))
 
-    ten : Refused TooShort ≡ Refused w → OfSlot (number_of w)
+    ten : ◌≡◌ {A = Result ⊤ Refusal} (Err TooShort) (Err w) → OfSlot (number_of w)
     ten e = let q : TooShort ≡ w = cc in inr (inr (inr (inr (inr (inr (inl (sym (ap number_of q))))))))
 
-    eleven : Refused BadPacket ≡ Refused w → OfSlot (number_of w)
+    eleven : ◌≡◌ {A = Result ⊤ Refusal} (Err BadPacket) (Err w) → OfSlot (number_of w)
     eleven e = let q : BadPacket ≡ w = cc in inr (inr (inr (inr (inr (inr (inr (inl (sym (ap number_of q)))))))))
 
 out_of_turn : (w : Refusal) → OutOfTurn ≡ w → OfSlot (number_of w)
 out_of_turn w q = inr (inr (inr (inr (inl (sym (ap number_of q))))))
 
-judge_number : (st : step.State) (m : List ℕ) (len : ℕ) (b : List ℕ) (w : Refusal) → step.judge st m len b ≡ Refused w → OfSlot (number_of w)
+judge_number : (st : step.State) (m : List ℕ) (len : ℕ) (b : List ℕ) (w : Refusal) → step.judge st m len b ≡ Err w → OfSlot (number_of w)
 judge_number step.idle m len b w e = out_of_turn w cc
 judge_number (step.in_packet n) m len b w e = verdict_number n len _ w e
 judge_number (step.gathering k q) m len b w e = out_of_turn w cc
@@ -273,11 +182,11 @@ module _ (r : Receiver) (x m : List ℕ) where
   unfolding memory_of
   left f w = rw (f, w)
 
-  slot_refused : (why : Refusal) → fits x m ≡ true → within r.phase ≡ true → (received_of r x m).answer ≡ Answers.Refused why
+  slot_refused : (why : Refusal) → fits x m ≡ true → within r.phase ≡ true → (received_of r x m).answer ≡ Err why
       → step.answer (state_of r) m (see x) ≡ step.refused why
   slot_refused why f w e = refused_only (step.answer (state_of r) m (see x)) why (sym (ap (λ (k : Received). k.answer) (taken_is f w)) ∙ e)
 
-  receiver_only : (why : Refusal) → fits x m ≡ true → within r.phase ≡ true → (received_of r x m).answer ≡ Answers.Refused why → OfSlot (number_of why)
+  receiver_only : (why : Refusal) → fits x m ≡ true → within r.phase ≡ true → (received_of r x m).answer ≡ Err why → OfSlot (number_of why)
   receiver_only why f w e =
       let long = eqb-true (length x) 48 (both (eqb (length x) 48) (eqb (length m) 825) f) in
       refused_number (state_of r) m (see x) why (λ v q. wider (number_of v) (unread_number x v long q)) (slot_refused why f w e)
@@ -293,62 +202,40 @@ module _ (r : Receiver) (x m : List ℕ) where
       by true false f w = let k = refused_12 r x m f w in rw (k.0, k.1) (twelve f w)
       by true true f w = other f w
 
-  not_of_slot : (why : Refusal) → fits x m ≡ true → within r.phase ≡ true → (OfSlot (number_of why) → ⊥) → (received_of r x m).answer ≡ Answers.Refused why → ⊥
+  not_of_slot : (why : Refusal) → fits x m ≡ true → within r.phase ≡ true → (OfSlot (number_of why) → ⊥) → (received_of r x m).answer ≡ Err why → ⊥
   not_of_slot why f w n e = n (receiver_only why f w e)
 
-  receiver_1 : ((received_of r x m).answer ≡ Answers.Refused WrongLength → fits x m ≡ false) × (fits x m ≡ false → (received_of r x m).answer ≡ Answers.Refused WrongLength)
+  receiver_1 : ((received_of r x m).answer ≡ Err WrongLength → fits x m ≡ false) × (fits x m ≡ false → (received_of r x m).answer ≡ Err WrongLength)
   receiver_1 = (
-    cases (λ k n. k.answer ≡ Answers.Refused WrongLength → fits x m ≡ false) (λ f e. f) (λ f w e. never (cc))
-        (λ f w e. absurd (not_of_slot WrongLength f w one e)),
+    cases (λ k n. k.answer ≡ Err WrongLength → fits x m ≡ false) (λ f e. f) (λ f w e. never (cc))
+        (λ f w e. absurd (not_of_slot WrongLength f w (λ o. omega (arith, of_slot 1 o)) e)),
     λ f. ap (λ (k : Received). k.answer) (refused_1 r x m f).0,
   )
-    where
-      one : OfSlot 1 → ⊥
-      one (inl e) = omega arith
-      one (inr (inl e)) = omega arith
-      one (inr (inr (inl e))) = omega arith
-      one (inr (inr (inr (inl e)))) = omega arith
-      one (inr (inr (inr (inr (inl e))))) = omega arith
-      one (inr (inr (inr (inr (inr (inl e)))))) = omega arith
-      one (inr (inr (inr (inr (inr (inr (inl e))))))) = omega arith
-      one (inr (inr (inr (inr (inr (inr (inr (inl e)))))))) = omega arith
-      one (inr (inr (inr (inr (inr (inr (inr (inr x)))))))) = elim x [ ]
 
-  receiver_12 : ((received_of r x m).answer ≡ Answers.Refused BadState → (fits x m ≡ true) × (within r.phase ≡ false))
-      × ((fits x m ≡ true) × (within r.phase ≡ false) → (received_of r x m).answer ≡ Answers.Refused BadState)
+  receiver_12 : ((received_of r x m).answer ≡ Err BadState → (fits x m ≡ true) × (within r.phase ≡ false))
+      × ((fits x m ≡ true) × (within r.phase ≡ false) → (received_of r x m).answer ≡ Err BadState)
   receiver_12 = (
-    cases (λ k n. k.answer ≡ Answers.Refused BadState → (fits x m ≡ true) × (within r.phase ≡ false)) (λ f e. never (cc)) (λ f w e. (f, w))
-        (λ f w e. absurd (not_of_slot BadState f w twelve e)),
+    cases (λ k n. k.answer ≡ Err BadState → (fits x m ≡ true) × (within r.phase ≡ false)) (λ f e. never (cc)) (λ f w e. (f, w))
+        (λ f w e. absurd (not_of_slot BadState f w (λ o. omega (arith, of_slot 12 o)) e)),
     λ k. ap (λ (q : Received). q.answer) (refused_12 r x m k.0 k.1).0,
   )
-    where
-      twelve : OfSlot 12 → ⊥
-      twelve (inl e) = omega arith
-      twelve (inr (inl e)) = omega arith
-      twelve (inr (inr (inl e))) = omega arith
-      twelve (inr (inr (inr (inl e)))) = omega arith
-      twelve (inr (inr (inr (inr (inl e))))) = omega arith
-      twelve (inr (inr (inr (inr (inr (inl e)))))) = omega arith
-      twelve (inr (inr (inr (inr (inr (inr (inl e))))))) = omega arith
-      twelve (inr (inr (inr (inr (inr (inr (inr (inl e)))))))) = omega arith
-      twelve (inr (inr (inr (inr (inr (inr (inr (inr x)))))))) = elim x [ ]
 
-  receiver_untouched : (why : Refusal) → (received_of r x m).answer ≡ Answers.Refused why → memory_of r x m ≡ m
+  receiver_untouched : (why : Refusal) → (received_of r x m).answer ≡ Err why → memory_of r x m ≡ m
   receiver_untouched why =
-      cases (λ k n. k.answer ≡ Answers.Refused why → n ≡ m) (λ f e. refl) (λ f w e. refl)
+      cases (λ k n. k.answer ≡ Err why → n ≡ m) (λ f e. refl) (λ f w e. refl)
       (λ f w e. left f w ∙ (subst (ByAnswer (state_of r) m (see x)) (slot_refused why f w e) (by_answer (state_of r) m (see x))).1)
 
 -- ---- the code
 
-uncoded_only : (k : Kind) (rx : List ℕ) → OneOf (said_of (fec.decoded_of k rx).answer) (0 ∷ 1 ∷ 3 ∷ [])
+uncoded_only : (k : Kind) (rx : List ℕ) → OneOf (said_of (fec.decoded_of k rx)) (0 ∷ 1 ∷ 3 ∷ [])
 uncoded_only k rx = elim (ℕ_discrete (length rx) (fec.coded_bytes k)) [
   | yes l ↦ rw (decoded_long k rx l) (by (read_of (fec.sends_in k) (fec.bits_in k) (fec.limit_of k) (bits_of rx)))
   | no n ↦ rw (decoded_short k rx n) (inr (inl refl))
 ]
   where
-    by : (o : Option (List Bool)) → OneOf (said_of (fec.found o).answer) (0 ∷ 1 ∷ 3 ∷ [])
-    by (some d) = inl refl
-    by none = inr (inr (inl refl))
+    by : (o : Option (List Bool)) → OneOf (said_of (fec.found o)) (0 ∷ 1 ∷ 3 ∷ [])
+    by (Some d) = inl refl
+    by None = inr (inr (inl refl))
 
 pub demand_1 : Demand1
 demand_1 =
@@ -398,24 +285,24 @@ demand_1 =
       stream_parsed = stream_parsed;
       packet_parsed_1 = packet_parsed_1;
       packet_parsed = packet_parsed;
-      interleave_none = λ s why. interleave_none why s;
-      address_read_none = λ s why. address_read_none why s;
-      address_written_none = λ a s why. address_written_none why a s;
-      coded_none = λ k d why. coded_none why k d;
-      header_from_none = λ s why. header_none why (cond (eqb (length s) 30) Done (Refused WrongLength)) s;
-      channel_none = λ c s why. header_none why (cond (leb c 15) Done (Refused OutOfRange)) (set_field channel_bits c s);
-      address_set_none = λ p a cs s why. header_none why (address.encoded_of a cs).answer (set_field p (address.address_value a cs) s);
-      header_new_none = λ m d a s b t why. header_none why (new_said a s b t) (new_bytes m d a s b t);
-      lich_none = λ c part why. lich_none why c part;
-      header_written_none = λ s why. header_written_none why s;
-      stream_written_none = λ i part f last s why. stream_written_none why i part f last s;
-      packet_written_none = λ c s why. packet_written_none why c s;
-      body_sent_none = λ k body why. body_sent_none why k body;
-      header_sent_none = λ f why. header_sent_none why f;
-      stream_sent_none = λ f why. stream_sent_none why f;
-      packet_sent_none = λ f why. packet_sent_none why f;
-      body_parsed_none = λ xs why. body_parsed_none why xs;
-      body_initial_none = λ xs why. body_initial_none why xs;
+      interleave_none = λ s. no_data (interleaved_of s);
+      address_read_none = λ s. no_data (address.decoded_of s);
+      address_written_none = λ a s. no_data (address.encoded_of a s);
+      coded_none = λ k d. no_data (fec.encoded_of k d);
+      header_from_none = λ s. no_data (from_of s);
+      channel_none = λ c s. no_data (channel_set_of c s);
+      address_set_none = λ p a cs s. no_data (address_set_of p a cs s);
+      header_new_none = λ m d a s b t. no_data (new_of m d a s b t);
+      lich_none = λ c part. no_data (lich_of c part);
+      header_written_none = λ s. no_data (lsf_body_of s);
+      stream_written_none = λ i part f last s. no_data (stream_body_of i part f last s);
+      packet_written_none = λ c s. no_data (packet_body_of c s);
+      body_sent_none = λ k body. no_data (body_symbols_of k body);
+      header_sent_none = λ f. no_data (lsf_symbols_of f);
+      stream_sent_none = λ f. no_data (stream_symbols_of f);
+      packet_sent_none = λ f. no_data (packet_symbols_of f);
+      body_parsed_none = λ xs. no_data (body_read_of xs);
+      body_initial_none = λ xs. no_data (initial_of xs);
       slot_only = unread_number;
       receiver_1 = receiver_1;
       receiver_12 = receiver_12;

@@ -14,12 +14,14 @@ use Rattle.automaton.specs.Runs as runs
 use Rattle.automaton.specs.Runs.{Slots, ◌▸◌, memory, Said, said, Packet, Six}
 use Rattle.automaton.proofs.Cases.{never}
 use Rattle.automaton.proofs.Demand3.{over_seen}
+use Rattle.std.specs.Prelude.{Ok}
+use Rattle.protocol.specs.declared.StreamFrame.{StreamFrame}
 use Rattle.receiver.specs.declared.Phase.TheVariants.{Idle, Gathering}
 use Rattle.receiver.specs.declared.Receiver.{Receiver}
 use Rattle.receiver.specs.declared.Late.TheVariants as Lates
 use Rattle.receiver.specs.declared.Answer.TheVariants as Answers
 use Rattle.receiver.specs.See.{see}
-use Rattle.receiver.specs.Receiver.{state_of, within, fits, answer_for, header_for, received_from, taken, received_of, memory_of}
+use Rattle.receiver.specs.Receiver.{state_of, within, fits, stream_frame, answer_for, received_from, taken, received_of, memory_of}
 use Rattle.receiver.specs.Runs.{Fed, start, ◌▹◌, ◌▹▹◌, Held, after, Heard, heard, seen_of}
 use Rattle.demands.specs.Slots.{HeaderSlot}
 use Rattle.demands.specs.Demand3.{Demand3}
@@ -57,7 +59,7 @@ module _ (m m' : List ℕ) (past : Fed) (x h : List ℕ) (room : length m ≡ 82
 
 -- ---- handed out
 
-packet_only : (a : step.Answer) (total : ℕ) → answer_for a ≡ Answers.Packet total → a ≡ step.packet total
+packet_only : (a : step.Answer) (total : ℕ) → answer_for a ≡ Ok (Answers.Packet total) → a ≡ step.packet total
 packet_only (step.header h) total e = never (cc)
 packet_only (step.stored k) total e = never (cc)
 packet_only (step.packet t) total e = cc
@@ -70,7 +72,7 @@ module _ (m : List ℕ) (past : Fed) (x : List ℕ) (room : length m ≡ 825) (l
   says = said m (seen_of past) (see x)
 
   handed_out : (total : ℕ) (bytes : List ℕ)
-      → (((heard m past x).answer ≡ Answers.Packet total) × ((heard m past x).bytes ≡ bytes)) ↔ (Packet (seen_of past) (see x) bytes × (total ≡ length bytes))
+      → (((heard m past x).answer ≡ Ok (Answers.Packet total)) × ((heard m past x).bytes ≡ bytes)) ↔ (Packet (seen_of past) (see x) bytes × (total ≡ length bytes))
   unfolding says
   handed_out total bytes = (only, if)
     where
@@ -80,13 +82,13 @@ module _ (m : List ℕ) (past : Fed) (x : List ℕ) (room : length m ≡ 825) (l
       both : (says ≡ record { answer = step.packet total; bytes = bytes }) ↔ (Packet (seen_of past) (see x) bytes × (total ≡ length bytes))
       both = over_seen.handed_out m (seen_of past) (see x) (all_sound past) (sound x) total bytes
 
-      only : ((heard m past x).answer ≡ Answers.Packet total) × ((heard m past x).bytes ≡ bytes) → Packet (seen_of past) (see x) bytes × (total ≡ length bytes)
+      only : ((heard m past x).answer ≡ Ok (Answers.Packet total)) × ((heard m past x).bytes ≡ bytes) → Packet (seen_of past) (see x) bytes × (total ≡ length bytes)
       only e =
           both.0
           (ap₂ (λ (a : step.Answer) (b : List ℕ). record { answer = a; bytes = b })
           (packet_only says.answer total (sym (ap (λ (k : Heard). k.answer) is) ∙ e.0)) (sym (ap (λ (k : Heard). k.bytes) is) ∙ e.1))
 
-      if : Packet (seen_of past) (see x) bytes × (total ≡ length bytes) → ((heard m past x).answer ≡ Answers.Packet total) × ((heard m past x).bytes ≡ bytes)
+      if : Packet (seen_of past) (see x) bytes × (total ≡ length bytes) → ((heard m past x).answer ≡ Ok (Answers.Packet total)) × ((heard m past x).bytes ≡ bytes)
       if k =
           let e = is ∙ ap heard_for (both.1 k) in
           (ap (λ (q : Heard). q.answer) e, ap (λ (q : Heard). q.bytes) e)
@@ -101,38 +103,37 @@ module _ (m : List ℕ) (past : Fed) (x : List ℕ) (room : length m ≡ 825) (l
   -- ---- late headers
 
   late_header : (bytes : List ℕ)
-      → (((heard m past x).answer ≡ Answers.Stream Lates.Header) × ((heard m past x).header ≡ bytes))
+      → ((g : StreamFrame) × ((heard m past x).answer ≡ Ok (Answers.Stream g (Lates.Header bytes))))
       ↔ ((p : List ℕ) × (f : Fields) × Six (seen_of past) (see x) p f bytes × (crc bytes ≡ 0))
   unfolding says
   late_header bytes = (only, if)
     where
-      is : heard m past x ≡ heard_for says
-      is = heard_is m room past x long
+      is : (heard m past x).answer ≡ answer_for says.answer
+      is = ap (λ (k : Heard). k.answer) (heard_is m room past x long)
 
-      at : (a : step.Answer) → says.answer ≡ a → answer_for a ≡ Answers.Stream Lates.Header → header_for a ≡ bytes
+      at : (a : step.Answer) (g : StreamFrame) → says.answer ≡ a → answer_for a ≡ Ok (Answers.Stream g (Lates.Header bytes))
           → (p : List ℕ) × (f : Fields) × Six (seen_of past) (see x) p f bytes × (crc bytes ≡ 0)
-      at (step.header h) q e b = never (cc)
-      at (step.stored k) q e b = never (cc)
-      at (step.packet t) q e b = never (cc)
-      at (step.fields c p f step.nothing) q e b = never (cc)
-      at (step.fields c p f (step.late h)) q e b =
+      at (step.header h) g q e = never (cc)
+      at (step.stored k) g q e = never (cc)
+      at (step.packet t) g q e = never (cc)
+      at (step.fields c p f step.nothing) g q e = never (cc)
+      at (step.fields c p f (step.late h)) g q e =
+          let b : h ≡ bytes = cc in
           let six = (over_seen.late_header m (seen_of past) (see x) c p f bytes).0 (q ∙ ap (λ (l : List ℕ). step.fields c p f (step.late l)) b) in
           (p, f, six.1, six.2)
-      at (step.fields c p f step.spoiled) q e b = never (cc)
-      at step.ended q e b = never (cc)
-      at (step.refused why) q e b = never (cc)
+      at (step.fields c p f step.spoiled) g q e = never (cc)
+      at step.ended g q e = never (cc)
+      at (step.refused why) g q e = never (cc)
 
-      only : ((heard m past x).answer ≡ Answers.Stream Lates.Header) × ((heard m past x).header ≡ bytes)
+      only : (g : StreamFrame) × ((heard m past x).answer ≡ Ok (Answers.Stream g (Lates.Header bytes)))
           → (p : List ℕ) × (f : Fields) × Six (seen_of past) (see x) p f bytes × (crc bytes ≡ 0)
-      only e = at says.answer refl (sym (ap (λ (k : Heard). k.answer) is) ∙ e.0) (sym (ap (λ (k : Heard). k.header) is) ∙ e.1)
+      only (g, e) = at says.answer g refl (sym is ∙ e)
 
       if : (p : List ℕ) × (f : Fields) × Six (seen_of past) (see x) p f bytes × (crc bytes ≡ 0)
-          → ((heard m past x).answer ≡ Answers.Stream Lates.Header) × ((heard m past x).header ≡ bytes)
-      if (p, f, six, z) =
-          let a = (over_seen.late_header m (seen_of past) (see x) 5 p f bytes).1 (refl, six, z) in
-          (ap (λ (k : Heard). k.answer) is ∙ ap answer_for a, ap (λ (k : Heard). k.header) is ∙ ap header_for a)
+          → (g : StreamFrame) × ((heard m past x).answer ≡ Ok (Answers.Stream g (Lates.Header bytes)))
+      if (p, f, six, z) = (stream_frame 5 p f, is ∙ ap answer_for ((over_seen.late_header m (seen_of past) (see x) 5 p f bytes).1 (refl, six, z)))
 
-  spoiled_mark : ((heard m past x).answer ≡ Answers.Stream Lates.Spoiled)
+  spoiled_mark : ((g : StreamFrame) × ((heard m past x).answer ≡ Ok (Answers.Stream g Lates.Spoiled)))
       ↔ ((p : List ℕ) × (f : Fields) × (bytes : List ℕ) × Six (seen_of past) (see x) p f bytes × (crc bytes ≡ 0 → ⊥))
   unfolding says
   spoiled_mark = (only, if)
@@ -140,24 +141,24 @@ module _ (m : List ℕ) (past : Fed) (x : List ℕ) (room : length m ≡ 825) (l
       is : (heard m past x).answer ≡ answer_for says.answer
       is = ap (λ (k : Heard). k.answer) (heard_is m room past x long)
 
-      at : (a : step.Answer) → says.answer ≡ a → answer_for a ≡ Answers.Stream Lates.Spoiled
+      at : (a : step.Answer) (g : StreamFrame) → says.answer ≡ a → answer_for a ≡ Ok (Answers.Stream g Lates.Spoiled)
           → (p : List ℕ) × (f : Fields) × (bytes : List ℕ) × Six (seen_of past) (see x) p f bytes × (crc bytes ≡ 0 → ⊥)
-      at (step.header h) q e = never (cc)
-      at (step.stored k) q e = never (cc)
-      at (step.packet t) q e = never (cc)
-      at (step.fields c p f step.nothing) q e = never (cc)
-      at (step.fields c p f (step.late h)) q e = never (cc)
-      at (step.fields c p f step.spoiled) q e = let (five, bytes, six, n) = (over_seen.spoiled_mark m (seen_of past) (see x) c p f).0 q in (p, f, bytes, six, n)
-      at step.ended q e = never (cc)
-      at (step.refused why) q e = never (cc)
+      at (step.header h) g q e = never (cc)
+      at (step.stored k) g q e = never (cc)
+      at (step.packet t) g q e = never (cc)
+      at (step.fields c p f step.nothing) g q e = never (cc)
+      at (step.fields c p f (step.late h)) g q e = never (cc)
+      at (step.fields c p f step.spoiled) g q e = let (five, bytes, six, n) = (over_seen.spoiled_mark m (seen_of past) (see x) c p f).0 q in (p, f, bytes, six, n)
+      at step.ended g q e = never (cc)
+      at (step.refused why) g q e = never (cc)
 
-      only : (heard m past x).answer ≡ Answers.Stream Lates.Spoiled
+      only : (g : StreamFrame) × ((heard m past x).answer ≡ Ok (Answers.Stream g Lates.Spoiled))
           → (p : List ℕ) × (f : Fields) × (bytes : List ℕ) × Six (seen_of past) (see x) p f bytes × (crc bytes ≡ 0 → ⊥)
-      only e = at says.answer refl (sym is ∙ e)
+      only (g, e) = at says.answer g refl (sym is ∙ e)
 
       if : (p : List ℕ) × (f : Fields) × (bytes : List ℕ) × Six (seen_of past) (see x) p f bytes × (crc bytes ≡ 0 → ⊥)
-          → (heard m past x).answer ≡ Answers.Stream Lates.Spoiled
-      if (p, f, bytes, six, n) = is ∙ ap answer_for ((over_seen.spoiled_mark m (seen_of past) (see x) 5 p f).1 (refl, bytes, six, n))
+          → (g : StreamFrame) × ((heard m past x).answer ≡ Ok (Answers.Stream g Lates.Spoiled))
+      if (p, f, bytes, six, n) = (stream_frame 5 p f, is ∙ ap answer_for ((over_seen.spoiled_mark m (seen_of past) (see x) 5 p f).1 (refl, bytes, six, n)))
 
 -- ---- states
 

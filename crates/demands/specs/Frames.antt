@@ -1,6 +1,7 @@
 -- Frames in range, and what of them is written and reads back. Assumes nothing.
-use Rattle.std.specs.Prelude.{◌≡◌, true, List, ℕ, ◌≤◌, ◌<◌, length}
+use Rattle.std.specs.Prelude.{◌≡◌, true, List, ℕ, ◌≤◌, ◌<◌, length, Result, Ok}
 use Rattle.laws.specs.Value.{Bytes}
+use Rattle.refusal.specs.declared.Refusal.{Refusal}
 use Rattle.protocol.specs.declared.LsfFrame.{LsfFrame}
 use Rattle.protocol.specs.declared.StreamFrame.{StreamFrame}
 use Rattle.protocol.specs.declared.PacketFrame.{PacketFrame}
@@ -28,11 +29,15 @@ pub record Packet (f : PacketFrame) : Type 0 where
   pub bytes : Bytes f.payload
 
 -- the body of a frame
-abbrev pub stream_body : StreamFrame → List ℕ
-stream_body f = (stream_body_of f.lich_idx f.lich_part f.frame_number f.end_of_stream f.stream_data).bytes
+abbrev pub stream_body : StreamFrame → Result (List ℕ) Refusal
+stream_body f = stream_body_of f.lich_idx f.lich_part f.frame_number f.end_of_stream f.stream_data
 
-abbrev pub packet_body : PacketFrame → List ℕ
-packet_body f = (packet_body_of f.counter f.payload).bytes
+abbrev pub packet_body : PacketFrame → Result (List ℕ) Refusal
+packet_body f = packet_body_of f.counter f.payload
+
+-- it is written, and what is written reads back as y
+abbrev pub Back : {A B : Type 0} → Result A Refusal → (A → Result B Refusal) → B → Type 0
+Back {A} {B} written read y = (x : A) × (written ≡ Ok x) × (read x ≡ Ok y)
 
 -- the frame with zeros past a final length
 abbrev pub trimmed : PacketFrame → PacketFrame

@@ -1,12 +1,15 @@
 -- Slots of 48 bytes: those that read as a header with a good CRC, and clean ones, exactly as our writers give them. Assumes nothing.
-use Rattle.std.specs.Prelude.{◌≡◌, List, [], ◌∷◌, ◌++◌, ℕ, zero, suc, ◌-◌, ◌*◌, ◌/◌, ◌%◌, ◌≤◌, length, take, drop, replicate}
+use Rattle.std.specs.Prelude.{◌≡◌, List, [], ◌∷◌, ◌++◌, ℕ, zero, suc, ◌-◌, ◌*◌, ◌/◌, ◌%◌, ◌≤◌, length, take, drop, replicate, Result, Ok}
+use Rattle.std.specs.Result.{result_unwrap_or}
 use Rattle.laws.specs.Value.{value_of, Bytes}
-use Rattle.refusal.specs.declared.Verdict.TheVariants.{Done}
+use Rattle.refusal.specs.declared.Refusal.{Refusal}
 use Rattle.crc.specs.Crc.{crc}
+use Rattle.fec.specs.declared.Kind.{Kind}
 use Rattle.fec.specs.declared.Kind.TheVariants as kind
 use Rattle.protocol.specs.declared.StreamFrame.{StreamFrame}
 use Rattle.protocol.specs.declared.PacketFrame.{PacketFrame}
 use Rattle.protocol.specs.declared.PacketFrameCounter.TheVariants.{Frame, FinalFrame}
+use Rattle.protocol.specs.Header.{header}
 use Rattle.encode.specs.Bodies.{lsf_body_of}
 use Rattle.encode.specs.Symbols.{sync_of}
 use Rattle.decode.specs.Bodies.{lsf_read_of}
@@ -21,7 +24,7 @@ use Rattle.demands.specs.Frames.{stream_body, packet_body}
 pub record HeaderSlot (x h : List ℕ) : Type 0 where
   pub long : length x ≡ 48
   pub sync : value_of (take 2 x) ≡ 0x55F7
-  pub reads : lsf_read_of (drop 2 x) ≡ record { answer = Done; frame = record { bytes = h } }
+  pub reads : lsf_read_of (drop 2 x) ≡ Ok (header h)
   pub good : crc h ≡ 0
 
 -- what a receiver holds that has come to a state of the automaton
@@ -30,14 +33,18 @@ holding st m = record { receiver = receiver_for st; memory = m }
 
 -- ---- clean slots
 
+-- a sync word and the body that is written: a frame in range has one, so that its slot has 48 bytes
+abbrev pub slot_of : Kind → Result (List ℕ) Refusal → List ℕ
+slot_of k body = sync_of k ++ result_unwrap_or body []
+
 abbrev pub header_slot : List ℕ → List ℕ
-header_slot h = sync_of kind.Header ++ (lsf_body_of h).bytes
+header_slot h = slot_of kind.Header (lsf_body_of h)
 
 abbrev pub stream_slot : StreamFrame → List ℕ
-stream_slot f = sync_of kind.Stream ++ stream_body f
+stream_slot f = slot_of kind.Stream (stream_body f)
 
 abbrev pub packet_slot : PacketFrame → List ℕ
-packet_slot f = sync_of kind.Packet ++ packet_body f
+packet_slot f = slot_of kind.Packet (packet_body f)
 
 -- ---- a sender's stream
 

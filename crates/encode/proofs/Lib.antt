@@ -1,5 +1,5 @@
-pub mod Copied
 pub mod Words
+pub mod Coded
 pub mod Fields
 pub mod Pairs
 pub mod Answers

@@ -1,10 +1,9 @@
 -- Writing a LICH: five bytes, then three counter bits, five zeros, as four Golay words. Assumes nothing.
-use Rattle.std.specs.Prelude.{cond, List, [], ◌∷◌, ◌++◌, ℕ, ◌*◌, ◌/◌, ◌%◌, ◌^◌, eqb, leb, length, replicate}
+use Rattle.std.specs.Prelude.{cond, List, [], ◌∷◌, ◌++◌, ℕ, ◌*◌, ◌/◌, ◌%◌, ◌^◌, eqb, leb, length, Result, Ok, Err}
 use Rattle.laws.specs.Value.{value_of, in_bytes}
+use Rattle.refusal.specs.declared.Refusal.{Refusal}
 use Rattle.refusal.specs.declared.Refusal.TheVariants.{WrongLength, OutOfRange}
-use Rattle.refusal.specs.declared.Verdict.TheVariants.{Done, Refused}
 use Rattle.golay.specs.Golay.{golay}
-use Rattle.encode.specs.declared.Lich.{Lich}
 
 -- the 48 bits as one number: the five bytes of the part, then the counter in the top three bits of the sixth
 abbrev pub lich_value : ℕ → List ℕ → ℕ
@@ -24,8 +23,5 @@ abbrev pub lich_bytes : ℕ → List ℕ → List ℕ
 lich_bytes counter part = lich_words (lich_value counter part)
 
 -- 1 for a part of other than five bytes; 2 for an index over 5
-unfoldable pub lich_of : ℕ → List ℕ → Lich
-lich_of counter part =
-    cond (eqb (length part) 5)
-    (cond (leb counter 5) (record { answer = Done; bytes = lich_bytes counter part }) (record { answer = Refused OutOfRange; bytes = replicate 12 0 }))
-    (record { answer = Refused WrongLength; bytes = replicate 12 0 })
+unfoldable pub lich_of : ℕ → List ℕ → Result (List ℕ) Refusal
+lich_of counter part = cond (eqb (length part) 5) (cond (leb counter 5) (Ok (lich_bytes counter part)) (Err OutOfRange)) (Err WrongLength)

@@ -1,21 +1,18 @@
 -- Bytes as symbols: each pair of bits is one f32. Assumes nothing.
-use Rattle.std.specs.Prelude.{Bool, true, false, cond, List, [], ◌∷◌, ◌++◌, ℕ, ◌+◌, ◌*◌, eqb, pos, Float, length, get_or, replicate}
+use Rattle.std.specs.Prelude.{Bool, true, false, cond, List, [], ◌∷◌, ◌++◌, ℕ, ◌+◌, ◌*◌, eqb, pos, Float, length, get_or, Result, Ok, Err}
 use Rattle.std.specs.Float.{fin, binary32}
 use Rattle.std.specs.Float.Ieee.{div, neg}
 use Rattle.laws.specs.Tabled.{tabled}
+use Rattle.refusal.specs.Number.{made_of}
 use Rattle.refusal.specs.declared.Refusal.{Refusal}
 use Rattle.refusal.specs.declared.Refusal.TheVariants.{WrongLength}
-use Rattle.refusal.specs.declared.Verdict.{Verdict}
-use Rattle.refusal.specs.declared.Verdict.TheVariants.{Done, Refused}
 use Rattle.bits.specs.Bits.{bits_of}
 use Rattle.fec.specs.declared.Kind.{Kind}
 use Rattle.fec.specs.declared.Kind.TheVariants.{Header, Stream, Packet}
 use Rattle.protocol.specs.declared.LsfFrame.{LsfFrame}
 use Rattle.protocol.specs.declared.StreamFrame.{StreamFrame}
 use Rattle.protocol.specs.declared.PacketFrame.{PacketFrame}
-use Rattle.encode.specs.declared.Body.{Body}
-use Rattle.encode.specs.declared.Symbols.{Symbols}
-use Rattle.encode.specs.Bodies.{written, unwritten, lsf_body_of, stream_body_of, packet_body_of}
+use Rattle.encode.specs.Bodies.{lsf_body_of, stream_body_of, packet_body_of}
 
 abbrev pub one : Float
 one = fin false 1 (pos 0)
@@ -47,27 +44,20 @@ sync_of Header = 0x55 ∷ 0xF7 ∷ []
 sync_of Stream = 0xFF ∷ 0x5D ∷ []
 sync_of Packet = 0x75 ∷ 0xFF ∷ []
 
--- ---- what writing a whole frame answers: the symbols, or the body's refusal and zeros
+-- ---- what writing a whole frame answers: the symbols, or the body's refusal
 
-abbrev pub unsent : Refusal → Symbols
-unsent why = record { answer = Refused why; symbols = replicate 192 (fin false 0 (pos 0)) }
-
-abbrev pub symbols_by : Verdict → Kind → List ℕ → Symbols
-symbols_by Done kind body = record { answer = Done; symbols = frame_of (sync_of kind) body }
-symbols_by (Refused why) kind body = unsent why
-
-abbrev pub symbols_from : Kind → Body → Symbols
-symbols_from kind b = symbols_by b.answer kind b.bytes
+abbrev pub symbols_from : Kind → Result (List ℕ) Refusal → Result (List Float) Refusal
+symbols_from kind = made_of (frame_of (sync_of kind))
 
 -- 1 for other than 46 bytes
-unfoldable pub body_symbols_of : Kind → List ℕ → Symbols
-body_symbols_of kind body = symbols_from kind (cond (eqb (length body) 46) (written body) (unwritten WrongLength))
+unfoldable pub body_symbols_of : Kind → List ℕ → Result (List Float) Refusal
+body_symbols_of kind body = cond (eqb (length body) 46) (Ok (frame_of (sync_of kind) body)) (Err WrongLength)
 
-unfoldable pub lsf_symbols_of : LsfFrame → Symbols
+unfoldable pub lsf_symbols_of : LsfFrame → Result (List Float) Refusal
 lsf_symbols_of f = symbols_from Header (lsf_body_of f.bytes)
 
-unfoldable pub stream_symbols_of : StreamFrame → Symbols
+unfoldable pub stream_symbols_of : StreamFrame → Result (List Float) Refusal
 stream_symbols_of f = symbols_from Stream (stream_body_of f.lich_idx f.lich_part f.frame_number f.end_of_stream f.stream_data)
 
-unfoldable pub packet_symbols_of : PacketFrame → Symbols
+unfoldable pub packet_symbols_of : PacketFrame → Result (List Float) Refusal
 packet_symbols_of f = symbols_from Packet (packet_body_of f.counter f.payload)

@@ -2,7 +2,7 @@
 use mathlib.Core.Path.{◌≡◌, refl, sym, ap, ap₂, ◌∙◌, subst}
 use mathlib.Core.Bool.{Bool, true, false}
 use mathlib.Core.List.{List, [], ◌∷◌, reverse}
-use mathlib.Core.Option.{Option, some, none}
+use Rattle.std.specs.Prelude.{Option, Some, None}
 use Prim.Native.Nat.{ℕ, ◌+◌, ◌≤◌, ◌<◌}
 use native.Mathlib.Omega.{arith}
 use lib.Dec.{T, leb}
@@ -69,7 +69,7 @@ module _ (p : ℕ → Sends) (n : ℕ) where
       )
 
   -- what n bits are written as reads as those bits, whatever the limit
-  pub own_read : (limit : ℕ) (d : List Bool) → length d ≡ n → read_of p n limit (code p (flushed d)) ≡ some d
+  pub own_read : (limit : ℕ) (d : List Bool) → length d ≡ n → read_of p n limit (code p (flushed d)) ≡ Some d
   unfolding read_of
   own_read limit d l =
       let w = flushed d in
@@ -77,43 +77,43 @@ module _ (p : ℕ → Sends) (n : ℕ) where
       let e : nearest p n (code p w) ≡ w = own_nearest w long in
       let z : distance p (code p w) (nearest p n (code p w)) ≡ 0 = ap (distance p (code p w)) e ∙ own_distance w in
       rw (le-leb (distance p (code p w) (nearest p n (code p w))) limit (omega arith))
-      (ap {B = Option (List Bool)} (λ (v : List Bool). some (take n v)) e ∙ ap {B = Option (List Bool)} some (take_at d (replicate 4 false) n l))
+      (ap {B = Option (List Bool)} (λ (v : List Bool). Some (take n v)) e ∙ ap {B = Option (List Bool)} Some (take_at d (replicate 4 false) n l))
 
   -- ---- exactly when
   module _ (limit : ℕ) (rx : List Bool) where
-    pub near : distance p rx (nearest p n rx) ≤ limit → read_of p n limit rx ≡ some (take n (nearest p n rx))
+    pub near : distance p rx (nearest p n rx) ≤ limit → read_of p n limit rx ≡ Some (take n (nearest p n rx))
     unfolding read_of
     near h = rw (le-leb (distance p rx (nearest p n rx)) limit h)
 
-    pub far : limit < distance p rx (nearest p n rx) → read_of p n limit rx ≡ none
+    pub far : limit < distance p rx (nearest p n rx) → read_of p n limit rx ≡ None
     unfolding read_of
     far h = rw (lt-leb (distance p rx (nearest p n rx)) limit h)
 
     either : (b : Bool) → leb (distance p rx (nearest p n rx)) limit ≡ b → (Q : Option (List Bool) → Type 0)
-        → (distance p rx (nearest p n rx) ≤ limit → Q (some (take n (nearest p n rx)))) → (limit < distance p rx (nearest p n rx) → Q none)
+        → (distance p rx (nearest p n rx) ≤ limit → Q (Some (take n (nearest p n rx)))) → (limit < distance p rx (nearest p n rx) → Q None)
         → Q (read_of p n limit rx)
     either true e Q a b = let h = leb-true _ _ e in subst Q (sym (near h)) (a h)
     either false e Q a b = let h = leb-false _ _ e in subst Q (sym (far h)) (b h)
 
     -- reading answers bits exactly where they are the first n of the nearest word and its distance is within the limit
-    pub answered_when : (d : List Bool) → ((read_of p n limit rx ≡ some d) → (w : List Bool) × Nearest p n rx w × (distance p rx w ≤ limit) × (d ≡ take n w))
-        × (((w : List Bool) × Nearest p n rx w × (distance p rx w ≤ limit) × (d ≡ take n w)) → read_of p n limit rx ≡ some d)
+    pub answered_when : (d : List Bool) → ((read_of p n limit rx ≡ Some d) → (w : List Bool) × Nearest p n rx w × (distance p rx w ≤ limit) × (d ≡ take n w))
+        × (((w : List Bool) × Nearest p n rx w × (distance p rx w ≤ limit) × (d ≡ take n w)) → read_of p n limit rx ≡ Some d)
     answered_when d = (
       either (leb (distance p rx (nearest p n rx)) limit) refl
-          (λ o. o ≡ some d → (w : List Bool) × Nearest p n rx w × (distance p rx w ≤ limit) × (d ≡ take n w))
+          (λ o. o ≡ Some d → (w : List Bool) × Nearest p n rx w × (distance p rx w ≤ limit) × (d ≡ take n w))
           (λ h e. (nearest p n rx, nearest_is p n rx, h, (cc)))
           (λ h e. absurd (let z : ◌≡◌ {A = ℕ} 0 1 = cc in omega arith)),
       λ a.
           let e : nearest p n rx ≡ a.0 = only_nearest p n rx a.0 a.1 in
-          near (omega (arith, a.2, ap (distance p rx) e)) ∙ ap {B = Option (List Bool)} some (ap (take n) e ∙ sym a.3),
+          near (omega (arith, a.2, ap (distance p rx) e)) ∙ ap {B = Option (List Bool)} Some (ap (take n) e ∙ sym a.3),
     )
 
     -- and refuses exactly where every word is farther
-    pub refused_when : (read_of p n limit rx ≡ none → (v : List Bool) → length v ≡ n + 4 → limit < distance p rx v)
-        × (((v : List Bool) → length v ≡ n + 4 → limit < distance p rx v) → read_of p n limit rx ≡ none)
+    pub refused_when : (read_of p n limit rx ≡ None → (v : List Bool) → length v ≡ n + 4 → limit < distance p rx v)
+        × (((v : List Bool) → length v ≡ n + 4 → limit < distance p rx v) → read_of p n limit rx ≡ None)
     refused_when = (
       either (leb (distance p rx (nearest p n rx)) limit) refl
-          (λ o. o ≡ none → (v : List Bool) → length v ≡ n + 4 → limit < distance p rx v)
+          (λ o. o ≡ None → (v : List Bool) → length v ≡ n + 4 → limit < distance p rx v)
           (λ h e. absurd (let z : ◌≡◌ {A = ℕ} 0 1 = cc in omega arith))
           (λ h e v l. omega (arith, (nearest_is p n rx).least v l)),
       λ f. far (f (nearest p n rx) (nearest_is p n rx).long),

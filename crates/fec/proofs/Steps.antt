@@ -2,7 +2,7 @@
 use mathlib.Core.Path.{◌≡◌, refl, sym, ap, ◌∙◌, subst}
 use mathlib.Core.Bool.{Bool, false}
 use mathlib.Core.List.{List, [], ◌∷◌, ◌++◌, reverse, reverse_aux, reverse-reverse}
-use mathlib.Core.Option.{Option, some, none}
+use Rattle.std.specs.Prelude.{Option, Some, None, option_map}
 use Prim.Native.Nat.{ℕ, suc, ◌+◌, ◌*◌, ◌/◌, ◌≤◌, ◌<◌, min}
 use native.Mathlib.Omega.{arith}
 use native.Mathlib.Nat.{zero-add, add-zero}
@@ -14,7 +14,7 @@ use Rattle.bits.proofs.Back.{bit-lt, odd-bit}
 use Rattle.fec.specs.declared.Sends.{Sends}
 use Rattle.fec.specs.Code.{◌⊕◌, sent, coded, code}
 use Rattle.fec.specs.Nearest.{differ, distance, comes, nearest, read_of}
-use Rattle.fec.specs.Search.{st, ix, cost, row, trace, out1, out2, sofar, Lowest, step as step_of_lem}
+use Rattle.fec.specs.Search.{st, ix, cost, row, trace, out1, out2, sofar, Lowest, costs_at}
 use Rattle.fec.proofs.Unique.{nearest_is, only_nearest}
 use Rattle.fec.proofs.Codes.{length-sent}
 use Rattle.fec.proofs.Answers.{near, far}
@@ -64,10 +64,10 @@ differ-append (x ∷ xs) ys (z ∷ zs) = omega (arith, differ-append xs ys zs)
 
 module _ (p : ℕ → Sends) (rx : List Bool) where
   abbrev step : ℕ → ℕ → ℕ
-  step t i = step_of_lem p rx t i
+  step t i = costs_at p rx t i
 
   walk : (w r : List Bool) → differ (coded p (length r) (get_or r 0 false) (get_or r 1 false) (get_or r 2 false) (get_or r 3 false) w) (drop (sofar p (length r)) rx) + cost step r ≡ cost step (reverse_aux w r)
-  unfolding coded cost step_of_lem
+  unfolding coded cost costs_at
   walk [] r = unfold differ in zero-add _
   walk (b ∷ w) r =
       let s = sent (p (length r)) (b ⊕ get_or r 2 false ⊕ get_or r 3 false) (b ⊕ get_or r 0 false ⊕ get_or r 1 false ⊕ get_or r 3 false) in
@@ -105,7 +105,7 @@ module _ (p : ℕ → Sends) (rx : List Bool) where
         ) in (e, ap (distance p rx) e ∙ d)
 
     module _ (limit i : ℕ) (r : List ℕ) (of-r : (j : ℕ) → j < 32 → get_or r j 0 ≡ min 255 (row step (n + 3) j)) (low : Lowest r i) where
-      pub refuses : limit < get_or r i 0 → none ≡ read_of p n limit rx
+      pub refuses : limit < get_or r i 0 → None ≡ read_of p n limit rx
       refuses h =
           sym (far p n limit rx (none_nearer (suc limit) (λ j l. omega (arith, low.least j l, of-r j l)) (nearest p n rx) (nearest_is p n rx).long))
 
@@ -121,8 +121,8 @@ module _ (p : ℕ → Sends) (rx : List Bool) where
               earlier = λ j l. omega (arith, low.earlier j l, of-r j (omega (arith, low.below)), of-r i low.below);
             }
 
-        pub answers : (word : List Bool) → take (n + 4) word ≡ reverse (trace step (n + 3) i) → some (take n word) ≡ read_of p n limit rx
+        pub answers : (word : List Bool) → take (n + 4) word ≡ reverse (trace step (n + 3) i) → option_map (take n) (Some word) ≡ read_of p n limit rx
         answers word e =
             let q = traced_nearest i first_least below_255 in
-            ap {B = Option (List Bool)} some (sym (take-take n (n + 4) word (omega arith)) ∙ ap (take n) (e ∙ sym q.0))
+            ap {B = Option (List Bool)} Some (sym (take-take n (n + 4) word (omega arith)) ∙ ap (take n) (e ∙ sym q.0))
             ∙ sym (near p n limit rx (omega (arith, of-r i low.below, q.1)))

@@ -1,14 +1,14 @@
 -- The encoder's loop: what is written so far, and then the coded bits of what is left, are the coded bits of the word. Assumes nothing.
 use mathlib.Core.Path.{◌≡◌, refl, sym, ap, ◌∙◌}
 use mathlib.Core.Bool.{Bool, false}
-use mathlib.Core.List.{List, [], ◌∷◌, ◌++◌, append_assoc, append-nil}
+use mathlib.Core.List.{List, ◌∷◌, ◌++◌, append_assoc, append-nil}
 use Prim.Native.Nat.{ℕ, suc, ◌+◌, ◌≤◌, ◌<◌}
 use native.Mathlib.Nat.{le_antisymm}
 use native.Mathlib.Numerals.{add-one}
 use native.Mathlib.Decide.{dec_lt}
 use native.Mathlib.Omega.{arith}
-use lib.ListN.{length, take, drop, get_or, set, replicate, length-set, length-append, drop_of_length-le, get_or-eq_default}
-use lib.Seq.{drop-cons, take-suc-set, length-take-le, get_or-take, get_or-set_other}
+use lib.ListN.{length, take, drop, get_or, replicate, length-append, drop_of_length-le, get_or-eq_default}
+use lib.Seq.{drop-cons, length-take-le, get_or-take}
 use Rattle.laws.proofs.Padded.{replicate_at, padded_at}
 use Rattle.fec.specs.declared.Sends.{Sends}
 use Rattle.fec.specs.Code.{◌⊕◌, sent, coded, code, flushed}
@@ -27,35 +27,6 @@ module _ (n : ℕ) (l : List Bool) (fits : n ≤ length l) where
 
   pub flushed_past : (t : ℕ) → n ≤ t → get_or (flushed (take n l)) t false ≡ false
   flushed_past t h = padded_at false (take n l) 4 t ∙ kept_past l n t h
-
--- ---- a store at the end of what is written
-
-stored : (out : List Bool) (at : ℕ) (g : Bool) → at < length out → take (at + 1) (set out at g) ≡ take at out ++ (g ∷ [])
-stored out at g h = rw (add-one at) (take-suc-set out at g h)
-
-stored_two : (out : List Bool) (at : ℕ) (g k : Bool) → at + 1 < length out → take (at + 2) (set (set out at g) (at + 1) k) ≡ take at out ++ (g ∷ k ∷ [])
-stored_two out at g k h =
-    let e : at + 2 ≡ at + 1 + 1 = omega arith in
-    ap (λ (m : ℕ). take m (set (set out at g) (at + 1) k)) e
-    ∙ stored (set out at g) (at + 1) k (omega (arith, length-set out at g))
-    ∙ ap (λ (l : List Bool). l ++ (k ∷ [])) (stored out at g (omega arith)) ∙ append_assoc (take at out) (g ∷ []) (k ∷ [])
-
--- where one bit is sent it is stored
-pub put_one : (out : List Bool) (at : ℕ) (g : Bool) (l : List Bool) → l ≡ g ∷ [] → at < length out → Stored out (set out at g) at (at + 1) l
-put_one out at g l e h =
-    record {
-      front = stored out at g h ∙ ap (λ (l : List Bool). take at out ++ l) (sym e);
-      rest = λ k q. get_or-set_other out at k g false (λ r. omega arith);
-    }
-
--- where both are, so are both
-pub put_both : (out : List Bool) (at : ℕ) (g g' : Bool) (l : List Bool) → l ≡ g ∷ g' ∷ [] → at + 1 < length out
-    → Stored out (set (set out at g) (at + 1) g') at (at + 2) l
-put_both out at g g' l e h =
-    record {
-      front = stored_two out at g g' h ∙ ap (λ (l : List Bool). take at out ++ l) (sym e);
-      rest = λ k q. get_or-set_other (set out at g) (at + 1) k g' false (λ r. omega arith) ∙ get_or-set_other out at k g false (λ r. omega arith);
-    }
 
 -- ---- the loop
 pub record Encoding (p : ℕ → Sends) (word out : List Bool) (at : ℕ) (b₁ b₂ b₃ b₄ : Bool) (t : ℕ) : Type 0 where

@@ -1,9 +1,7 @@
 -- The three kinds of body, and what writing and reading one answer. Assumes nothing.
-use Rattle.std.specs.Prelude.{Bool, cond, List, ℕ, eqb, length, take, replicate}
-use Rattle.std.proofs.Math.Option.{Option, some, none}
+use Rattle.std.specs.Prelude.{Bool, cond, List, ℕ, eqb, length, take, Option, Some, None, Result, Ok, Err}
 use Rattle.refusal.specs.declared.Refusal.{Refusal}
 use Rattle.refusal.specs.declared.Refusal.TheVariants.{WrongLength, TooFar}
-use Rattle.refusal.specs.declared.Verdict.TheVariants.{Done, Refused}
 use Rattle.bits.specs.Bits.{bits_of, bytes_of}
 use Rattle.fec.specs.declared.Sends.{Sends}
 use Rattle.fec.specs.declared.Puncture.{Puncture}
@@ -11,8 +9,6 @@ use Rattle.fec.specs.declared.Puncture.TheVariants.{One, Two, Three}
 use Rattle.fec.specs.declared.Kind.{Kind}
 use Rattle.fec.specs.declared.Kind.TheVariants.{Header, Stream, Packet}
 use Rattle.fec.specs.declared.Plan.{Plan}
-use Rattle.fec.specs.declared.Coded.{Coded}
-use Rattle.fec.specs.declared.Decoded.{Decoded}
 use Rattle.fec.specs.Code.{sends, code, flushed}
 use Rattle.fec.specs.Nearest.{read_of}
 
@@ -43,31 +39,22 @@ sends_in k = sends (puncture_of k)
 
 -- ---- writing
 
-abbrev pub encoded : List ℕ → Coded
-encoded b = record { answer = Done; bytes = b }
+-- the coded bits of the data's first n bits, packed, unused bits zero
+unfoldable pub coded_of : Kind → List ℕ → List ℕ
+coded_of k d = bytes_of 46 (code (sends_in k) (flushed (take (bits_in k) (bits_of d))))
 
-abbrev pub not_encoded : Refusal → Coded
-not_encoded why = record { answer = Refused why; bytes = replicate 46 0 }
-
--- the coded bits of the data's first n bits, packed, unused bits zero; 1 for a wrong length
-unfoldable pub encoded_of : Kind → List ℕ → Coded
-encoded_of k d =
-    cond (eqb (length d) (data_bytes k)) (encoded (bytes_of 46 (code (sends_in k) (flushed (take (bits_in k) (bits_of d)))))) (not_encoded WrongLength)
+-- 1 for a wrong length
+unfoldable pub encoded_of : Kind → List ℕ → Result (List ℕ) Refusal
+encoded_of k d = cond (eqb (length d) (data_bytes k)) (Ok (coded_of k d)) (Err WrongLength)
 
 -- ---- reading
 
-abbrev pub decoded : List ℕ → Decoded
-decoded b = record { answer = Done; bytes = b }
-
-abbrev pub not_decoded : Refusal → Decoded
-not_decoded why = record { answer = Refused why; bytes = replicate 30 0 }
-
 -- the bits that reading found, packed, zeros past them; 3 where it found none
-abbrev pub found : Option (List Bool) → Decoded
-found (some d) = decoded (bytes_of 30 d)
-found none = not_decoded TooFar
+abbrev pub found : Option (List Bool) → Result (List ℕ) Refusal
+found (Some d) = Ok (bytes_of 30 d)
+found None = Err TooFar
 
 -- the first n bits of the word nearest to the bits received, or 3; 1 for a wrong length
-unfoldable pub decoded_of : Kind → List ℕ → Decoded
+unfoldable pub decoded_of : Kind → List ℕ → Result (List ℕ) Refusal
 decoded_of k rx =
-    cond (eqb (length rx) (coded_bytes k)) (found (read_of (sends_in k) (bits_in k) (limit_of k) (bits_of rx))) (not_decoded WrongLength)
+    cond (eqb (length rx) (coded_bytes k)) (found (read_of (sends_in k) (bits_in k) (limit_of k) (bits_of rx))) (Err WrongLength)

@@ -1,7 +1,6 @@
 -- The nearest word, as a statement over all words and as a function. The function ranges over all words and is not computed at full length:
 -- what is known of it is that it is the `Nearest` one. Assumes nothing.
-use Rattle.std.specs.Prelude.{◌≡◌, Bool, true, false, not, cond, List, [], ◌∷◌, reverse, ℕ, zero, suc, ◌+◌, ◌≤◌, T, ltb, leb, length, take}
-use Rattle.std.proofs.Math.Option.{Option, some, none}
+use Rattle.std.specs.Prelude.{◌≡◌, Bool, true, false, not, cond, List, [], ◌∷◌, reverse, ℕ, zero, suc, ◌+◌, ◌≤◌, T, ltb, leb, length, take, Option, Some, None}
 use Rattle.bits.specs.Bits.{bit}
 use Rattle.fec.specs.declared.Sends.{Sends}
 use Rattle.fec.specs.Code.{◌⊕◌, code}
@@ -57,4 +56,4 @@ nearest p n rx = best (distance p rx) 5 (n + 4) []
 
 -- what reading finds: the first n bits of the nearest word, or nothing where its distance is over the limit
 unfoldable pub read_of : (ℕ → Sends) → ℕ → ℕ → List Bool → Option (List Bool)
-read_of p n limit rx = cond (leb (distance p rx (nearest p n rx)) limit) (some (take n (nearest p n rx))) none
+read_of p n limit rx = cond (leb (distance p rx (nearest p n rx)) limit) (Some (take n (nearest p n rx))) None

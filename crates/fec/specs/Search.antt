@@ -1,7 +1,6 @@
 -- What the private functions of the search compute, step by step. A reader of the promises needs none of it: the public contracts cite
 -- `Kinds` alone, and the proofs show that the search finds what `Nearest` says. Assumes nothing.
 use Rattle.std.specs.Prelude.{◌≡◌, Bool, false, cond, List, [], ◌∷◌, ◌++◌, reverse, ℕ, zero, suc, ◌+◌, ◌*◌, ◌/◌, ◌%◌, ◌≤◌, ◌<◌, min, ltb, length, drop, take, get_or}
-use Rattle.std.proofs.Math.Option.{Option, some, none}
 use Rattle.bits.specs.Bits.{bit, odd}
 use Rattle.fec.specs.declared.Sends.{Sends}
 use Rattle.fec.specs.declared.Sends.TheVariants.{Both, First, Second}
@@ -106,8 +105,8 @@ module _ (p : ℕ → Sends) where
   sofar (suc t) = sofar t + count (p t)
 
   -- what a transition costs at step t
-  unfoldable pub step : List Bool → ℕ → ℕ → ℕ
-  step rx t i = differ (sent (p t) (out1 i) (out2 i)) (drop (sofar t) rx)
+  unfoldable pub costs_at : List Bool → ℕ → ℕ → ℕ
+  costs_at rx t i = differ (sent (p t) (out1 i) (out2 i)) (drop (sofar t) rx)
 
 -- what a transition costs where x is received, or x and y
 abbrev pub price : Sends → Bool → Bool → ℕ → ℕ
@@ -123,7 +122,3 @@ shelf Second x y = 6 + bit x
 pub record Stored (old new : List Bool) (at next : ℕ) (l : List Bool) : Type 0 where
   pub front : take next new ≡ take at old ++ l
   pub rest : (k : ℕ) → next ≤ k → get_or new k false ≡ get_or old k false
-
--- what an answer of the search says was found
-abbrev pub outcome : ℕ → Bool → List Bool → Option (List Bool)
-outcome n found word = cond found (some (take n word)) none

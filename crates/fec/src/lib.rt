@@ -1,14 +1,14 @@
 // The convolutional code, its three puncturings, and the reading of the nearest word.
 #![tactic(auto)]
 
-ghost use Rattle.std.specs.Prelude.{◌≡◌, Bool, true, false, [], ◌∷◌, ℕ, ◌+◌, ◌*◌, ◌≤◌, ◌<◌, min, length, get_or, take, drop};
-ghost use Rattle.bits.specs.Bits.{bit, bits_of, byte_of, bytes_of};
+ghost use Rattle.std.specs.Prelude.{◌≡◌, Bool, true, false, [], ◌∷◌, ℕ, ◌+◌, ◌*◌, ◌≤◌, ◌<◌, min, length, get_or, take, option_map};
+ghost use Rattle.bits.specs.Bits.{bit, bits_of};
 ghost use Rattle.fec.specs.Code.{◌⊕◌, sends, sent, code, flushed};
 ghost use Rattle.fec.specs.Nearest.{differ, read_of};
 ghost use Rattle.fec.specs.Kinds.{plan_of, encoded_of, decoded_of};
-ghost use Rattle.fec.specs.Search.{Outputs, count, sofar, step as «step_of_lem», price as «price-of», shelf, grown, Rows, Lowest, source, Traced, Stored, outcome};
+ghost use Rattle.fec.specs.Search.{Outputs, count, sofar, costs_at, price, shelf, grown, Rows, Lowest, source, Traced, Stored};
 
-use refusal::{Refusal, Verdict};
+use refusal::Refusal;
 
 #[derive(Clone, Copy)]
 pub enum Puncture {
@@ -46,20 +46,6 @@ pub struct Plan {
     pub limit: u8,
 }
 
-// The answer of `encode`: the coded bits packed, unused bits zero. Zeros on a refusal.
-#[derive(Clone, Copy)]
-pub struct Coded {
-    pub answer: Verdict,
-    pub bytes: [u8; 46],
-}
-
-// The answer of `decode`: the bits read, packed, zeros past them. Zeros on a refusal.
-#[derive(Clone, Copy)]
-pub struct Decoded {
-    pub answer: Verdict,
-    pub bytes: [u8; 30],
-}
-
 fn plan_of(kind: Kind) -> Plan
     ensures { result ≡ plan_of kind }
 {
@@ -88,6 +74,7 @@ fn plan_of(kind: Kind) -> Plan
     }
 }
 
+#[tactic(auto, unfolding(crate::specs::Code::sends))]
 fn sent_at(p: Puncture, t: usize) -> Sends
     ensures { result ≡ sends p t }
 {
@@ -161,38 +148,32 @@ fn outputs() -> [[u8; 2]; 32]
     OUTPUTS
 }
 
-// Whether two bits differ: 0 or 1.
-fn unlike(a: bool, b: bool) -> u8
-    ensures { (result ≡ bit (a ⊕ b)) × (result ≤ 1) }
-{
-    if a == b { 0 } else { 1 }
-}
-
 // How many of the coded bits that are sent are other than those received.
+#[tactic(auto, unfolding(crate::specs::Nearest::differ), using(crate::proofs::Packed::bit_unlike))]
 fn unlike_sent(e: Sends, g1: bool, g2: bool, x: bool, y: bool) -> u8
     ensures { result ≡ differ (sent e g1 g2) (x ∷ y ∷ []) }
 {
     match e {
-        Sends::Both => unlike(g1, x) + unlike(g2, y),
-        Sends::First => unlike(g1, x),
-        Sends::Second => unlike(g2, x),
+        Sends::Both => u8::from(g1 != x) + u8::from(g2 != y),
+        Sends::First => u8::from(g1 != x),
+        Sends::Second => u8::from(g2 != x),
     }
 }
 
 // What each transition costs where x is received, or x and y.
 fn price(e: Sends, x: bool, y: bool) -> [u8; 32]
-    ensures { (i : ℕ) → i < 32 → get_or result i 0 ≡ «price-of» e x y i }
+    ensures { (i : ℕ) → i < 32 → get_or result i 0 ≡ price e x y i }
 {
-    let outs = outputs();
-    let mut d = [0u8; 32];
-    for i in 0..32 {
-        d[i] = unlike_sent(e, outs[i][0] == 1, outs[i][1] == 1, x, y);
+    let mut costs = [0; 32];
+    // kept: `outputs().map(..)` was tried: its closure would want a clause of its own, and what it holds followed through 32 calls.
+    for (i, [g1, g2]) in outputs().iter().enumerate() {
+        costs[i] = unlike_sent(e, *g1 == 1, *g2 == 1, x, y);
     }
-    d
+    costs
 }
 
 fn prices() -> [[u8; 32]; 8]
-    ensures { (e : Sends) (x y : Bool) (i : ℕ) → i < 32 → get_or (get_or result (shelf e x y) []) i 0 ≡ «price-of» e x y i }
+    ensures { (e : Sends) (x y : Bool) (i : ℕ) → i < 32 → get_or (get_or result (shelf e x y) []) i 0 ≡ price e x y i }
 {
     [
         price(Sends::Both, false, false),
@@ -207,29 +188,13 @@ fn prices() -> [[u8; 32]; 8]
 }
 
 // The bit at a place.
+// kept: `bits::get_bit` tests the place again, and with it writing and reading a body take a tenth longer; one of `bits` without the test would be
+// public with a `requires`.
 fn bit_at(bytes: &[u8], place: usize) -> bool
     requires { place < 8 * length bytes.now }
     ensures { result ≡ get_or (bits_of bytes.now) place false }
 {
     (bytes[place / 8] >> (7 - place % 8)) % 2 == 1
-}
-
-// The bits of bytes, each by itself.
-fn unpack(bytes: &[u8]) -> [bool; 368]
-    requires { length bytes.now ≤ 46 }
-    ensures { take (8 * length bytes.now) result ≡ bits_of bytes.now }
-{
-    let mut out = [false; 368];
-    for k in 0..8 * bytes.len() {
-        out[k] = bit_at(bytes, k);
-    }
-    out
-}
-
-fn number(b: bool) -> usize
-    ensures { (result ≡ bit b) × (result ≤ 1) }
-{
-    if b { 1 } else { 0 }
 }
 
 // Where the reading goes on, and which row of prices holds for what was received.
@@ -239,108 +204,93 @@ struct Heard {
     pub row: usize,
 }
 
-fn hear(rx: &[bool], at: usize, e: Sends) -> Heard
-    requires { (at + count e ≤ length rx.now) × (length rx.now ≤ 368) }
-    ensures { (result.at ≡ at + count e) × (result.row ≡ shelf e (get_or rx.now at false) (get_or rx.now (at + 1) false)) }
+// kept: what bounds the bytes received stands here and in `forward`: a struct of them and the place would be made anew at each step.
+// The row is a number: the prices are made once, and a row is found by its place.
+fn hear(rx: &[u8], at: usize, e: Sends) -> Heard
+    requires { (at + count e ≤ 8 * length rx.now) × (length rx.now ≤ 46) }
+    ensures { (result.at ≡ at + count e) × (result.row ≡ shelf e (get_or (bits_of rx.now) at false) (get_or (bits_of rx.now) (at + 1) false)) }
 {
     match e {
         Sends::Both => Heard {
             at: at + 2,
-            row: 2 * number(rx[at]) + number(rx[at + 1]),
+            row: 2 * usize::from(bit_at(rx, at)) + usize::from(bit_at(rx, at + 1)),
         },
         Sends::First => Heard {
             at: at + 1,
-            row: 4 + number(rx[at]),
+            row: 4 + usize::from(bit_at(rx, at)),
         },
         Sends::Second => Heard {
             at: at + 1,
-            row: 6 + number(rx[at]),
+            row: 6 + usize::from(bit_at(rx, at)),
         },
     }
 }
 
-// The lesser.
-fn least(a: u8, b: u8) -> u8
-    ensures { result ≡ min a b }
-{
-    if a < b { a } else { b }
-}
-
-// The sum, at most 255.
-fn plus(a: u8, d: u8) -> u8
-    ensures { result ≡ min 255 (a + d) }
-{
-    if 255 - d < a { 255 } else { a + d }
-}
-
 // The least cost to each state.
-fn bests(old: [u8; 32]) -> [u8; 16]
-    ensures { (s : ℕ) → s < 16 → get_or result s 0 ≡ min (get_or old (2 * s) 0) (get_or old (2 * s + 1) 0) }
+fn bests(old: &[u8; 32]) -> [u8; 16]
+    ensures { (s : ℕ) → s < 16 → get_or result s 0 ≡ min (get_or old.now (2 * s) 0) (get_or old.now (2 * s + 1) 0) }
 {
-    let mut b = [0u8; 16];
-    for s in 0..16 {
-        b[s] = least(old[2 * s], old[2 * s + 1]);
+    let mut bests = [0; 16];
+    // kept: two neighbours by their places: of bytes written through `bests.iter_mut().zip(old.chunks_exact(2))` nothing is known afterwards.
+    for (s, best) in bests.iter_mut().enumerate() {
+        *best = old[2 * s].min(old[2 * s + 1]);
     }
-    b
+    bests
 }
 
-// One step: the least cost of each transition from those of the step before. Two loops: each becomes vector instructions.
-fn next_row(old: [u8; 32], cost: [u8; 32]) -> [u8; 32]
-    ensures { (i : ℕ) → i < 32 → get_or result i 0 ≡ grown old cost i }
+// One step: the least cost of each transition from those of the step before.
+fn next_row(old: &[u8; 32], cost: &[u8; 32]) -> [u8; 32]
+    ensures { (i : ℕ) → i < 32 → get_or result i 0 ≡ grown old.now cost.now i }
 {
-    let b = bests(old);
-    let mut new = [0u8; 32];
-    for s in 0..16 {
-        new[s] = plus(b[s], cost[s]);
-    }
-    for s in 0..16 {
-        new[s + 16] = plus(b[s], cost[s + 16]);
+    let mut new = [0; 32];
+    // kept: both halves by the state: one loop over the transitions becomes no vector instructions, and takes nine times as long.
+    for (s, best) in bests(old).iter().enumerate() {
+        new[s] = best.saturating_add(cost[s]);
+        new[s + 16] = best.saturating_add(cost[s + 16]);
     }
     new
 }
 
 // The rows of all steps.
-fn forward(rx: &[bool], steps: usize, p: Puncture) -> [[u8; 32]; 244]
-    requires { (sofar (sends p) steps ≤ length rx.now) × (length rx.now ≤ 368) × (steps ≤ 244) }
-    ensures { Rows («step_of_lem» (sends p) rx.now) result steps }
+fn forward(rx: &[u8], steps: usize, p: Puncture) -> [[u8; 32]; 244]
+    requires { (sofar (sends p) steps ≤ 8 * length rx.now) × (length rx.now ≤ 46) × (steps ≤ 244) }
+    ensures { Rows (costs_at (sends p) (bits_of rx.now)) result steps }
 {
     let cost = prices();
-    let mut table = [[0u8; 32]; 244];
-    let mut row = [255u8; 32];
+    let mut table = [[0; 32]; 244];
+    let mut row = [255; 32];
     row[0] = 0;
     let mut at = 0;
+    // kept: by the step, which also says what is sent: with `table[..steps].iter_mut().enumerate()` the proof did not close.
     for step in 0..steps {
-        let h = hear(rx, at, sent_at(p, step));
-        at = h.at;
-        let k = h.row;
-        let d = cost[k];
-        let next = next_row(row, d);
-        table[step] = next;
-        row = next;
+        let heard = hear(rx, at, sent_at(p, step));
+        at = heard.at;
+        row = next_row(&row, &cost[heard.row]);
+        table[step] = row;
     }
     table
 }
 
 // The first place of the least.
-fn first_least(row: [u8; 32]) -> usize
-    ensures { Lowest row result }
+fn first_least(row: &[u8; 32]) -> usize
+    ensures { Lowest row.now result }
 {
     let mut best = 0;
     let mut low = row[0];
-    for i in 1..32 {
-        let x = row[i];
-        if x < low {
+    // kept: `row.iter().enumerate().min_by_key(..)` says which of equals it takes only call by call, and answers an Option that is never None here.
+    for (i, x) in row.iter().enumerate() {
+        if *x < low {
             best = i;
-            low = x;
+            low = *x;
         }
     }
     best
 }
 
 // The transition before a state: the odd one among equals.
-fn earlier(row: [u8; 32], s: usize) -> usize
+fn earlier(row: &[u8; 32], s: usize) -> usize
     requires { s < 16 }
-    ensures { (result ≡ source row s) × (result < 32) }
+    ensures { (result ≡ source row.now s) × (result < 32) }
 {
     if row[2 * s] < row[2 * s + 1] {
         2 * s
@@ -356,120 +306,42 @@ fn backward(table: &[[u8; 32]; 244], n: usize, last: usize) -> [bool; 244]
 {
     let mut word = [false; 244];
     let mut i = last;
-    let mut step = n + 3;
-    word[step] = 15 < i;
-    while 0 < step {
-        step = step - 1;
-        let row = table[step];
-        i = earlier(row, i % 16);
+    word[n + 3] = 15 < i;
+    // kept: both arrays by the step: of bits written through a part's `iter_mut().zip(..).rev()` nothing is known afterwards.
+    for step in (0..n + 3).rev() {
+        i = earlier(&table[step], i % 16);
         word[step] = 15 < i;
     }
     word
 }
 
-#[derive(Clone, Copy)]
-struct Reading {
-    pub found: bool,
-    pub word: [bool; 244],
-}
-
 // The nearest word, where its distance is within the limit.
-fn search(rx: &[bool], n: usize, p: Puncture, limit: u8) -> Reading
-    requires { (sofar (sends p) (n + 4) ≤ length rx.now) × (length rx.now ≤ 368) × (n ≤ 240) × (limit < 255) }
-    ensures { (outcome n result.found result.word ≡ read_of (sends p) n limit rx.now) × (length result.word ≡ 244) }
+// kept: three fields of a `Plan`: this is proved once over any puncturing, count and limit, as document 01 asks, and a `Plan` holds more.
+fn search(rx: &[u8], n: usize, p: Puncture, limit: u8) -> Option<[bool; 244]>
+    requires { (sofar (sends p) (n + 4) ≤ 8 * length rx.now) × (length rx.now ≤ 46) × (n ≤ 240) × (limit < 255) }
+    ensures { option_map (take n) result ≡ read_of (sends p) n limit (bits_of rx.now) }
 {
     let table = forward(rx, n + 4, p);
-    let row = table[n + 3];
-    let i = first_least(row);
-    if limit < row[i] {
-        return Reading {
-            found: false,
-            word: [false; 244],
-        };
+    let row = &table[n + 3];
+    let last = first_least(row);
+    if limit < row[last] {
+        return None;
     }
-    let word = backward(&table, n, i);
-    Reading {
-        found: true,
-        word: word,
-    }
-}
-
-// Bit k of the first n, 0 past them.
-fn kept(w: &[bool], n: usize, k: usize) -> u8
-    requires { n ≤ length w.now }
-    ensures { (result ≡ bit (get_or (take n w.now) k false)) × (result ≤ 1) }
-{
-    if k < n {
-        if w[k] {
-            return 1;
-        }
-    }
-    0
-}
-
-fn join(a: u8, b: u8, c: u8, d: u8, e: u8, f: u8, g: u8, h: u8) -> u8
-    requires { (a ≤ 1) × (b ≤ 1) × (c ≤ 1) × (d ≤ 1) × (e ≤ 1) × (f ≤ 1) × (g ≤ 1) × (h ≤ 1) }
-    ensures { result ≡ 128 * a + 64 * b + 32 * c + 16 * d + 8 * e + 4 * f + 2 * g + h }
-{
-    128 * a + 64 * b + 32 * c + 16 * d + 8 * e + 4 * f + 2 * g + h
-}
-
-// The byte of the eight bits from j on, of the first n.
-fn byte_at(w: &[bool], n: usize, j: usize) -> u8
-    requires { (n ≤ length w.now) × (j ≤ 368) }
-    ensures { result ≡ byte_of (drop j (take n w.now)) }
-{
-    join(
-        kept(w, n, j),
-        kept(w, n, j + 1),
-        kept(w, n, j + 2),
-        kept(w, n, j + 3),
-        kept(w, n, j + 4),
-        kept(w, n, j + 5),
-        kept(w, n, j + 6),
-        kept(w, n, j + 7),
-    )
-}
-
-// The first n bits packed, zeros past them.
-fn pack(w: &[bool], n: usize, out: &mut [u8])
-    requires { (n ≤ length w.now) × (length out.old ≤ 46) }
-    ensures { out.new ≡ bytes_of (length out.old) (take n w.now) }
-{
-    for i in 0..out.len() {
-        out[i] = byte_at(w, n, 8 * i);
-    }
+    Some(backward(&table, n, last))
 }
 
 // The first n bits of the nearest word.
-pub fn decode(kind: Kind, received: &[u8]) -> Decoded
+pub fn decode(kind: Kind, received: &[u8]) -> Result<[u8; 30], Refusal>
     ensures { result ≡ decoded_of kind received.now }
 {
     let plan = plan_of(kind);
     if received.len() != plan.coded {
-        return Decoded {
-            answer: Verdict::Refused(Refusal::WrongLength),
-            bytes: [0u8; 30],
-        };
+        return Err(Refusal::WrongLength);
     }
-    let n = plan.bits;
-    let p = plan.puncture;
-    let bits = unpack(received);
-    let m = 8 * received.len();
-    let r = search(&bits[..m], n, p, plan.limit);
-    if r.found {
-        let w = r.word;
-        let mut bytes = [0u8; 30];
-        pack(&w, n, &mut bytes);
-        return Decoded {
-            answer: Verdict::Done,
-            bytes: bytes,
-        };
-    }
-    Decoded {
-        answer: Verdict::Refused(Refusal::TooFar),
-        bytes: [0u8; 30],
-    }
+    let word = search(received, plan.bits, plan.puncture, plan.limit).ok_or(Refusal::TooFar)?;
+    let mut bytes = [0u8; 30];
+    bits::pack(&word[..plan.bits], &mut bytes);
+    Ok(bytes)
 }
 
 // Bit t of the first n, 0 past them.
@@ -477,14 +349,7 @@ fn input_at(plain: &[u8], n: usize, t: usize) -> bool
     requires { n ≤ 8 * length plain.now }
     ensures { result ≡ get_or (flushed (take n (bits_of plain.now))) t false }
 {
-    if t < n { bit_at(plain, t) } else { false }
-}
-
-// The sum of two bits mod 2.
-fn sum(a: bool, b: bool) -> bool
-    ensures { result ≡ a ⊕ b }
-{
-    a != b
+    t < n && bit_at(plain, t)
 }
 
 // What a step sends is stored from `at` on. Returns the next place.
@@ -510,46 +375,34 @@ fn put_sent(out: &mut [bool], at: usize, e: Sends, g1: bool, g2: bool) -> usize
 }
 
 // The coded bits of n bits and four zeros.
+// kept: two fields of a `Plan`: this is proved once over any puncturing and count, as document 01 asks. There is no heap, so the bits are an array and
+// the place that comes next.
 fn code_bits(plain: &[u8], n: usize, p: Puncture) -> [bool; 368]
     requires { (n ≤ 240) × (n ≤ 8 * length plain.now) × (sofar (sends p) (n + 4) ≤ 368) }
     ensures { (k : ℕ) → get_or result k false ≡ get_or (code (sends p) (flushed (take n (bits_of plain.now)))) k false }
 {
     let mut out = [false; 368];
     let mut at = 0;
-    let mut b1 = false;
-    let mut b2 = false;
-    let mut b3 = false;
-    let mut b4 = false;
+    let [mut b1, mut b2, mut b3, mut b4] = [false; 4];
     for t in 0..n + 4 {
         let b = input_at(plain, n, t);
-        let g1 = sum(sum(b, b3), b4);
-        let g2 = sum(sum(sum(b, b1), b2), b4);
+        let g1 = b ^ b3 ^ b4;
+        let g2 = b ^ b1 ^ b2 ^ b4;
         at = put_sent(&mut out, at, sent_at(p, t), g1, g2);
-        b4 = b3;
-        b3 = b2;
-        b2 = b1;
-        b1 = b;
+        [b1, b2, b3, b4] = [b, b1, b2, b3];
     }
     out
 }
 
 // The coded bits of the data's first n bits.
-pub fn encode(kind: Kind, plain: &[u8]) -> Coded
+pub fn encode(kind: Kind, plain: &[u8]) -> Result<[u8; 46], Refusal>
     ensures { result ≡ encoded_of kind plain.now }
 {
     let plan = plan_of(kind);
     if plain.len() != plan.bytes {
-        return Coded {
-            answer: Verdict::Refused(Refusal::WrongLength),
-            bytes: [0u8; 46],
-        };
+        return Err(Refusal::WrongLength);
     }
-    let p = plan.puncture;
-    let out = code_bits(plain, plan.bits, p);
     let mut bytes = [0u8; 46];
-    pack(&out, 368, &mut bytes);
-    Coded {
-        answer: Verdict::Done,
-        bytes: bytes,
-    }
+    bits::pack(&code_bits(plain, plan.bits, plan.puncture), &mut bytes);
+    Ok(bytes)
 }

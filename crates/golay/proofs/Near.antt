@@ -1,7 +1,7 @@
 -- From what the search found, or did not find, to the reading: the only codeword within three flips, or none. Assumes nothing.
 use mathlib.Core.Path.{◌≡◌, refl, sym, ap, ◌∙◌, subst}
 use mathlib.Core.Bool.{Bool, true, false, cond}
-use mathlib.Core.Logic.{◌⊎◌, ⊎_elim}
+use mathlib.Core.Logic.{⊎_elim}
 use Prim.Native.Nat.{ℕ, zero, suc, ◌+◌, ◌/◌, ◌^◌, ◌≤◌, ◌<◌}
 use native.Mathlib.Nat.{mul-one, one-mul}
 use native.Mathlib.Decide.{ℕ_discrete}
@@ -14,8 +14,9 @@ use lib.Count.{ones_in}
 use borrow.Author.Tests.{eqb-true, eq-eqb, lt-leb, leb-true, leb-false}
 use Rattle.laws.proofs.Every.{every_at}
 use Rattle.laws.proofs.Xor.{xor_assoc, xor_swap, xor_back, ones_xor}
+use Rattle.std.specs.Prelude.{Result, Ok, Err}
+use Rattle.refusal.specs.declared.Refusal.{Refusal}
 use Rattle.refusal.specs.declared.Refusal.TheVariants.{BadGolay}
-use Rattle.golay.specs.declared.Reading.TheVariants.{Data, Refused}
 use Rattle.golay.specs.Golay.{golay, apart, is_word, near_below}
 use Rattle.golay.proofs.Clear.{flip, Clear1}
 use Rattle.golay.proofs.Linear.{golay_data, golay-lt}
@@ -110,55 +111,38 @@ no_word w x hw hx e cw c1 l =
     all : Flips 24 0 3 (bit_xor w x)
     all = subst (Flips 24 0 3) (mul-one (bit_xor w x)) (flips 24 0 3 (bit_xor w x) (xor_lt 24 w x hw hx) (rw (xor_comm w x) l))
 
--- ---- where the ways out of the search meet
-
--- hit is a word within three flips of w
-pub record Hit (w hit : ℕ) : Type 0 where
-  pub small : hit < 2 ^ 24
-  pub word : is_word hit ≡ true
-  pub close : apart hit w ≤ 3
-
-abbrev pub Met : ℕ → ℕ → Bool → Type 0
-Met w hit found = ((found ≡ true) × Hit w hit) ⊎ ((found ≡ false) × (is_word w ≡ false) × Clear1 w 24)
-
-pub met_hit : (w hit : ℕ) (found : Bool) → Met w hit found → found ≡ true → Hit w hit
-met_hit w hit found m e = ⊎_elim (λ p. p.1) (λ p. let t : true ≡ false = sym e ∙ p.0 in absurd (subst T t tt)) m
-
-pub met_none : (w hit : ℕ) (found : Bool) → Met w hit found → found ≡ false → (is_word w ≡ false) × Clear1 w 24
-met_none w hit found m e = ⊎_elim (λ p. let t : true ≡ false = sym p.0 ∙ e in absurd (subst T t tt)) (λ p. (p.1, p.2)) m
-
 -- ---- the reading
 
 -- a word that is near is the one that is found
-pub near_found : (n w d : ℕ) → n ≤ 4096 → d < n → apart (golay d) w ≤ 3 → near_below n w ≡ Data d
+pub near_found : (n w d : ℕ) → n ≤ 4096 → d < n → apart (golay d) w ≤ 3 → near_below n w ≡ Ok d
 unfolding near_below
 near_found zero w d m h l = absurd (omega arith)
 near_found (suc n) w d m h l = go (leb (apart (golay n) w) 3) refl (λ k. near_found n w d (omega arith) k l)
   where
-    go : (t : Bool) → leb (apart (golay n) w) 3 ≡ t → (d < n → near_below n w ≡ Data d) → cond (leb (apart (golay n) w) 3) (Data n) (near_below n w) ≡ Data d
+    go : (t : Bool) → leb (apart (golay n) w) 3 ≡ t → (d < n → near_below n w ≡ Ok d) → cond (leb (apart (golay n) w) 3) (Ok n) (near_below n w) ≡ Ok d
     go true e r =
-        ap (λ (t : Bool). cond t (Data n) (near_below n w)) e
-        ∙ ap Data (only_one n d w (omega arith) (omega arith) (leb-true (apart (golay n) w) 3 e) l)
+        ap (λ (t : Bool). cond t (Ok n) (near_below n w)) e
+        ∙ ap {B = Result ℕ Refusal} (λ (x : ℕ). Ok x) (only_one n d w (omega arith) (omega arith) (leb-true (apart (golay n) w) 3 e) l)
     go false e r =
         let other : (d ≡ n → ⊥) = λ p. let q : apart (golay n) w ≤ 3 = subst (λ (x : ℕ). apart (golay x) w ≤ 3) p l in omega (arith, leb-false (apart (golay n) w) 3 e) in
-        ap (λ (t : Bool). cond t (Data n) (near_below n w)) e ∙ r (lt_of_le-ne (omega arith) other)
+        ap (λ (t : Bool). cond t (Ok n) (near_below n w)) e ∙ r (lt_of_le-ne (omega arith) other)
 
 -- and where none is near, none is found
-pub near_none : (n w : ℕ) → ((d : ℕ) → d < n → apart (golay d) w ≤ 3 → ⊥) → near_below n w ≡ Refused BadGolay
+pub near_none : (n w : ℕ) → ((d : ℕ) → d < n → apart (golay d) w ≤ 3 → ⊥) → near_below n w ≡ Err BadGolay
 unfolding near_below
 near_none zero w f = refl
 near_none (suc n) w f =
     let far : 3 < apart (golay n) w = leb-false (apart (golay n) w) 3 (no (leb (apart (golay n) w) 3) refl) in
-    ap (λ (t : Bool). cond t (Data n) (near_below n w)) (lt-leb (apart (golay n) w) 3 far) ∙ near_none n w (λ d h l. f d (omega arith) l)
+    ap (λ (t : Bool). cond t (Ok n) (near_below n w)) (lt-leb (apart (golay n) w) 3 far) ∙ near_none n w (λ d h l. f d (omega arith) l)
   where
     no : (t : Bool) → leb (apart (golay n) w) 3 ≡ t → leb (apart (golay n) w) 3 ≡ false
     no true e = absurd (f n (omega arith) (leb-true (apart (golay n) w) 3 e))
     no false e = e
 
-pub found_read : (w x : ℕ) → x < 2 ^ 24 → is_word x ≡ true → apart x w ≤ 3 → Data (x / 4096) ≡ near_below 4096 w
+pub found_read : (w x : ℕ) → x < 2 ^ 24 → is_word x ≡ true → apart x w ≤ 3 → near_below 4096 w ≡ Ok (x / 4096)
 found_read w x h e l =
     let near : apart (golay (x / 4096)) w ≤ 3 = rw (is_word_lem x e) l in
-    sym (near_found 4096 w (x / 4096) (lit≤ tt) (omega arith) near)
+    near_found 4096 w (x / 4096) (lit≤ tt) (omega arith) near
 
-pub none_read : (w : ℕ) → w < 2 ^ 24 → is_word w ≡ false → Clear1 w 24 → Refused BadGolay ≡ near_below 4096 w
-none_read w hw cw c1 = sym (near_none 4096 w (λ d hd ld. no_word w (golay d) hw (golay-lt d hd) (word_is d hd) cw c1 ld))
+pub none_read : (w : ℕ) → w < 2 ^ 24 → is_word w ≡ false → Clear1 w 24 → near_below 4096 w ≡ Err BadGolay
+none_read w hw cw c1 = near_none 4096 w (λ d hd ld. no_word w (golay d) hw (golay-lt d hd) (word_is d hd) cw c1 ld)

@@ -1,14 +1,10 @@
 -- The extended Golay(24,12) code: its words, and what reading a word answers. Assumes nothing.
-use Rattle.std.specs.Prelude.{Bool, cond, ℕ, zero, suc, ◌+◌, ◌*◌, ◌/◌, ◌%◌, ◌^◌, eqb, ltb, leb}
+use Rattle.std.specs.Prelude.{Bool, cond, ℕ, zero, suc, ◌+◌, ◌*◌, ◌/◌, ◌%◌, ◌^◌, eqb, ltb, leb, Result, Ok, Err}
 use Rattle.std.specs.Int.Bits.{bit_xor}
 use Rattle.std.specs.Int.Count.{ones_in}
 use Rattle.laws.specs.Division.{rem}
-use Rattle.refusal.specs.Number.{number_of}
+use Rattle.refusal.specs.declared.Refusal.{Refusal}
 use Rattle.refusal.specs.declared.Refusal.TheVariants.{OutOfRange, BadGolay}
-use Rattle.golay.specs.declared.Codeword.{Codeword}
-use Rattle.golay.specs.declared.Codeword.TheVariants as codeword
-use Rattle.golay.specs.declared.Reading.{Reading}
-use Rattle.golay.specs.declared.Reading.TheVariants as reading
 
 -- the remainder of data times x^11 by x^11+x^10+x^6+x^5+x^4+x^2+1
 abbrev pub check : ℕ → ℕ
@@ -27,23 +23,14 @@ unfoldable pub is_word : ℕ → Bool
 is_word w = eqb (golay (w / 4096)) w
 
 -- the data below n whose codeword is within three flips of w, the highest where there were more; 4 where there is none
-unfoldable pub near_below : ℕ → ℕ → Reading
-near_below zero w = reading.Refused BadGolay
-near_below (suc n) w = cond (leb (apart (golay n) w) 3) (reading.Data n) (near_below n w)
+unfoldable pub near_below : ℕ → ℕ → Result ℕ Refusal
+near_below zero w = Err BadGolay
+near_below (suc n) w = cond (leb (apart (golay n) w) 3) (Ok n) (near_below n w)
 
 -- a word of 24 bits, else 4, for no codeword has more
-unfoldable pub decoded_of : ℕ → Reading
-decoded_of w = cond (ltb w (2 ^ 24)) (near_below 4096 w) (reading.Refused BadGolay)
+unfoldable pub decoded_of : ℕ → Result ℕ Refusal
+decoded_of w = cond (ltb w (2 ^ 24)) (near_below 4096 w) (Err BadGolay)
 
 -- data of 12 bits, else 2
-unfoldable pub encoded_of : ℕ → Codeword
-encoded_of d = cond (ltb d 4096) (codeword.Word (golay d)) (codeword.Refused OutOfRange)
-
--- the number of an answer: 0 with data, and with a codeword
-abbrev pub number_of_reading : Reading → ℕ
-number_of_reading (reading.Data d) = 0
-number_of_reading (reading.Refused why) = number_of why
-
-abbrev pub number_of_codeword : Codeword → ℕ
-number_of_codeword (codeword.Word w) = 0
-number_of_codeword (codeword.Refused why) = number_of why
+unfoldable pub encoded_of : ℕ → Result ℕ Refusal
+encoded_of d = cond (ltb d 4096) (Ok (golay d)) (Err OutOfRange)

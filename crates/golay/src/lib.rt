@@ -1,28 +1,15 @@
 // The extended Golay(24,12) code, for the outside crate cai_golay.
 #![tactic(auto)]
 
-ghost use Rattle.std.specs.Prelude.{◌≡◌, ℕ, ◌*◌, ◌^◌, ◌<◌};
+ghost use Rattle.std.specs.Prelude.{◌≡◌, ℕ, ◌*◌, ◌/◌, ◌^◌, ◌<◌, MatchOption, Ok, Err};
 ghost use Rattle.laws.specs.Tabled.{tabled};
+ghost use Rattle.refusal.specs.declared.Refusal.TheVariants.{BadGolay};
 ghost use Rattle.golay.specs.Golay.{golay, is_word, near_below, encoded_of, decoded_of};
 
 use refusal::Refusal;
 
-// What writing answers: the 24-bit codeword.
-#[derive(Clone, Copy)]
-pub enum Codeword {
-    Word(u32),
-    Refused(Refusal),
-}
-
-// What reading answers: the 12 data bits.
-#[derive(Clone, Copy)]
-pub enum Reading {
-    Data(u16),
-    Refused(Refusal),
-}
-
 // The codewords of data whose lower six bits are zero.
-const UPPER: [u32; 64] = [
+static UPPER: [u32; 64] = [
     0x000000, 0x040D99, 0x0803DA, 0x0C0E43, 0x1007B4, 0x140A2D, 0x18046E, 0x1C09F7, 0x200F68,
     0x2402F1, 0x280CB2, 0x2C012B, 0x3008DC, 0x340545, 0x380B06, 0x3C069F, 0x40063B, 0x440BA2,
     0x4805E1, 0x4C0878, 0x50018F, 0x540C16, 0x580255, 0x5C0FCC, 0x600953, 0x6404CA, 0x680A89,
@@ -34,7 +21,7 @@ const UPPER: [u32; 64] = [
 ];
 
 // The codewords of data of six bits.
-const LOWER: [u32; 64] = [
+static LOWER: [u32; 64] = [
     0x000000, 0x0018EB, 0x00293E, 0x0031D5, 0x004A97, 0x00527C, 0x0063A9, 0x007B42, 0x008DC6,
     0x00952D, 0x00A4F8, 0x00BC13, 0x00C751, 0x00DFBA, 0x00EE6F, 0x00F684, 0x010367, 0x011B8C,
     0x012A59, 0x0132B2, 0x0149F0, 0x01511B, 0x0160CE, 0x017825, 0x018EA1, 0x01964A, 0x01A79F,
@@ -45,99 +32,83 @@ const LOWER: [u32; 64] = [
     0x03F32E,
 ];
 
-fn upper() -> [u32; 64]
-    ensures { result ≡ tabled (λ (k : ℕ). golay (k * 64)) 64 }
+fn upper() -> &'static [u32; 64]
+    ensures { result.now ≡ tabled (λ (k : ℕ). golay (k * 64)) 64 }
 {
-    UPPER
+    &UPPER
 }
 
-fn lower() -> [u32; 64]
-    ensures { result ≡ tabled golay 64 }
+fn lower() -> &'static [u32; 64]
+    ensures { result.now ≡ tabled golay 64 }
 {
-    LOWER
+    &LOWER
 }
 
 // The code is linear: a codeword is that of the upper six bits xored with that of the lower.
-fn word_of(high: &[u32; 64], low: &[u32; 64], value: u32) -> u32
-    requires { (high.now ≡ tabled (λ (k : ℕ). golay (k * 64)) 64) × (low.now ≡ tabled golay 64) × (value < 4096) }
+fn word_of(value: u32) -> u32
+    requires { value < 4096 }
     ensures { result ≡ golay value }
 {
+    let high = upper();
+    let low = lower();
     high[(value / 64) as usize] ^ low[(value % 64) as usize]
 }
 
-fn is_word(high: &[u32; 64], low: &[u32; 64], word: u32) -> bool
-    requires { (high.now ≡ tabled (λ (k : ℕ). golay (k * 64)) 64) × (low.now ≡ tabled golay 64) × (word < 2 ^ 24) }
+fn is_word(word: u32) -> bool
+    requires { word < 2 ^ 24 }
     ensures { result ≡ is_word word }
 {
-    word_of(high, low, word / 4096) == word
+    word_of(word / 4096) == word
 }
 
-// One, two or three places are flipped until a codeword is found.
-fn search(high: &[u32; 64], low: &[u32; 64], word: u32) -> Reading
-    requires { (high.now ≡ tabled (λ (k : ℕ). golay (k * 64)) 64) × (low.now ≡ tabled golay 64) × (word < 2 ^ 24) }
-    ensures { result ≡ near_below 4096 word }
+// One, two or three places are flipped until a codeword is found: nested loops left by a label, as document 01 names the form.
+fn nearest(word: u32) -> Option<u32>
+    requires { word < 2 ^ 24 }
+    ensures { MatchOption result (near_below 4096 word ≡ Err BadGolay) (λ hit. (hit < 2 ^ 24) × (near_below 4096 word ≡ Ok (hit / 4096))) }
 {
-    let mut hit = word;
-    let mut found = is_word(high, low, word);
-    if !found {
-        'search: for i in 0..24u32 {
+    'search: {
+        if is_word(word) {
+            break 'search Some(word);
+        }
+        for i in 0..24u32 {
             let a = word ^ (1 << i);
-            if is_word(high, low, a) {
-                hit = a;
-                found = true;
-                break 'search;
+            if is_word(a) {
+                break 'search Some(a);
             }
             for j in i + 1..24 {
                 let b = a ^ (1 << j);
-                if is_word(high, low, b) {
-                    hit = b;
-                    found = true;
-                    break 'search;
+                if is_word(b) {
+                    break 'search Some(b);
                 }
                 for k in j + 1..24 {
                     let c = b ^ (1 << k);
-                    if is_word(high, low, c) {
-                        hit = c;
-                        found = true;
-                        break 'search;
+                    if is_word(c) {
+                        break 'search Some(c);
                     }
                 }
             }
         }
+        None
     }
-    if found {
-        Reading::Data((hit / 4096) as u16)
-    } else {
-        Reading::Refused(Refusal::BadGolay)
-    }
-}
-
-fn wide(x: u16) -> u32
-    ensures { result ≡ x }
-{
-    x as u32
 }
 
 // The codeword of the data.
-pub fn encode(value: u16) -> Codeword
+pub fn encode(value: u16) -> Result<u32, Refusal>
     ensures { result ≡ encoded_of value }
 {
     if 4096 <= value {
-        return Codeword::Refused(Refusal::OutOfRange);
+        return Err(Refusal::OutOfRange);
     }
-    let high = upper();
-    let low = lower();
-    Codeword::Word(word_of(&high, &low, wide(value)))
+    Ok(word_of(u32::from(value)))
 }
 
 // The data of the only codeword within three flipped bits.
-pub fn decode(word: u32) -> Reading
+pub fn decode(word: u32) -> Result<u16, Refusal>
     ensures { result ≡ decoded_of word }
 {
     if 0x1000000 <= word {
-        return Reading::Refused(Refusal::BadGolay);
+        return Err(Refusal::BadGolay);
     }
-    let high = upper();
-    let low = lower();
-    search(&high, &low, word)
+    let hit = nearest(word).ok_or(Refusal::BadGolay)?;
+    Ok((hit / 4096) as u16)
 }

@@ -1,15 +1,15 @@
 // Interleaving: bit i of 368 goes to place MAPPING[i].
 #![tactic(auto)]
 
-ghost use Rattle.std.specs.Prelude.{◌≡◌, false, ◌≤◌, ◌<◌, length, get_or, drop};
+ghost use Rattle.std.specs.Prelude.{◌≡◌, length};
 ghost use Rattle.laws.specs.Tabled.{tabled};
-ghost use Rattle.bits.specs.Bits.{bit, bits_of, byte_of, bytes_of};
+ghost use Rattle.bits.specs.Bits.{bits_of};
 ghost use Rattle.interleave.specs.Interleave.{mapped, interleaved, interleaved_of};
 
-use bits::NextBit;
-use refusal::{Refusal, Verdict};
+use bits::BitsIterator;
+use refusal::Refusal;
 
-const MAPPING: [usize; 368] = [
+static MAPPING: [usize; 368] = [
     0, 137, 90, 227, 180, 317, 270, 39, 360, 129, 82, 219, 172, 309, 262, 31, 352, 121, 74, 211,
     164, 301, 254, 23, 344, 113, 66, 203, 156, 293, 246, 15, 336, 105, 58, 195, 148, 285, 238, 7,
     328, 97, 50, 187, 140, 277, 230, 367, 320, 89, 42, 179, 132, 269, 222, 359, 312, 81, 34, 171,
@@ -31,18 +31,11 @@ const MAPPING: [usize; 368] = [
     145, 98, 235, 188, 325, 278, 47,
 ];
 
-// The whole table, so that a loop copies it once.
-fn mapping() -> [usize; 368]
-    ensures { result ≡ tabled mapped 368 }
+// The whole table.
+fn mapping() -> &'static [usize; 368]
+    ensures { result.now ≡ tabled mapped 368 }
 {
-    MAPPING
-}
-
-// The answer, and the bytes: zeros on a refusal.
-#[derive(Clone, Copy)]
-pub struct Interleaved {
-    pub answer: Verdict,
-    pub bytes: [u8; 46],
+    &MAPPING
 }
 
 // Each bit in order is put at its place.
@@ -50,70 +43,21 @@ fn placed_bits(payload: &[u8]) -> [bool; 368]
     requires { length payload.now ≡ 46 }
     ensures { result ≡ interleaved (bits_of payload.now) }
 {
-    let places = mapping();
     let mut new = [false; 368];
-    let mut at = 0;
-    while at < 368 {
-        let step = bits::next_bit(payload, at);
-        let bit = step.bit;
-        let NextBit::Value(b) = bit else {
-            return new;
-        };
-        new[places[at]] = b == 1;
-        at = step.place;
+    for (place, bit) in mapping().iter().zip(BitsIterator::new(payload, 0)) {
+        new[*place] = bit == 1;
     }
     new
 }
 
-fn number(w: &[bool], k: usize) -> u8
-    requires { k < length w.now }
-    ensures { (result ≡ bit (get_or w.now k false)) × (result ≤ 1) }
-{
-    if w[k] {
-        return 1;
-    }
-    0
-}
-
-// The byte of the eight bits from j on.
-fn byte_at(w: &[bool], j: usize) -> u8
-    requires { (length w.now ≡ 368) × (j ≤ 360) }
-    ensures { result ≡ byte_of (drop j w.now) }
-{
-    let a = number(w, j);
-    let b = number(w, j + 1);
-    let c = number(w, j + 2);
-    let d = number(w, j + 3);
-    let e = number(w, j + 4);
-    let f = number(w, j + 5);
-    let g = number(w, j + 6);
-    let h = number(w, j + 7);
-    128 * a + 64 * b + 32 * c + 16 * d + 8 * e + 4 * f + 2 * g + h
-}
-
-fn packed(w: &[bool]) -> [u8; 46]
-    requires { length w.now ≡ 368 }
-    ensures { result ≡ bytes_of 46 w.now }
-{
-    let mut out = [0u8; 46];
-    for i in 0..46 {
-        out[i] = byte_at(w, 8 * i);
-    }
-    out
-}
-
-pub fn interleave(payload: &[u8]) -> Interleaved
+// The bits of 46 bytes, each at its place.
+pub fn interleave(payload: &[u8]) -> Result<[u8; 46], Refusal>
     ensures { result ≡ interleaved_of payload.now }
 {
     if payload.len() != 46 {
-        return Interleaved {
-            answer: Verdict::Refused(Refusal::WrongLength),
-            bytes: [0u8; 46],
-        };
+        return Err(Refusal::WrongLength);
     }
-    let placed = placed_bits(payload);
-    Interleaved {
-        answer: Verdict::Done,
-        bytes: packed(&placed),
-    }
+    let mut bytes = [0u8; 46];
+    bits::pack(&placed_bits(payload), &mut bytes);
+    Ok(bytes)
 }

@@ -1,9 +1,9 @@
 pub mod Every
 pub mod Values
 pub mod InPlace
-pub mod Pasted
 pub mod Xor
 pub mod Divide
 pub mod Number
 pub mod Padded
 pub mod Bytes
+pub mod BigEndian

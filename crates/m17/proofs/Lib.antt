@@ -1,6 +1,2 @@
-pub mod Lent
-pub mod Heard
-pub mod Setting
-pub mod Memory
-pub mod Parts
+pub mod Numbered
 pub mod Crossed

@@ -1,9 +1,7 @@
 -- Frames as numbers and buffers, and what the memory lent for one holds after it is read. Assumes nothing.
-use Rattle.std.specs.Prelude.{◌≡◌, cond, ◌&&◌, List, ℕ, eqb, ltb, length}
-use Rattle.refusal.specs.Number.{said_of}
-use Rattle.refusal.specs.declared.Refusal.TheVariants.{WrongLength, OutOfRange}
-use Rattle.refusal.specs.declared.Verdict.{Verdict}
-use Rattle.refusal.specs.declared.Verdict.TheVariants.{Done, Refused}
+use Rattle.std.specs.Prelude.{cond, List, ℕ, Result, Float}
+use Rattle.refusal.specs.declared.Refusal.{Refusal}
+use Rattle.refusal.specs.Number.{made_of}
 use Rattle.bits.specs.Bits.{bit}
 use Rattle.bits.specs.Places.{flag}
 use Rattle.protocol.specs.declared.LsfFrame.{LsfFrame}
@@ -11,14 +9,9 @@ use Rattle.protocol.specs.declared.PacketFrame.{PacketFrame}
 use Rattle.protocol.specs.declared.PacketFrameCounter.{PacketFrameCounter}
 use Rattle.protocol.specs.declared.PacketFrameCounter.TheVariants.{Frame, FinalFrame}
 use Rattle.protocol.specs.declared.StreamFrame.{StreamFrame}
-use Rattle.encode.specs.declared.Symbols.{Symbols}
-use Rattle.encode.specs.Symbols.{unsent, body_symbols_of}
-use Rattle.decode.specs.declared.Counted.{Counted}
-use Rattle.decode.specs.declared.Counted.TheVariants as counted
-use Rattle.decode.specs.declared.LichRead.{LichRead}
-use Rattle.decode.specs.declared.PacketRead.{PacketRead}
-use Rattle.decode.specs.declared.StreamRead.{StreamRead}
-use Rattle.decode.specs.Lich.{number_of_counted}
+use Rattle.encode.specs.Symbols.{body_symbols_of}
+use Rattle.decode.specs.declared.LichPart.{LichPart}
+use Rattle.m17.specs.Given.{of_length, and_then, Lent}
 use Rattle.m17.specs.Fec.{kind_for}
 
 -- ---- what crosses as a number: 0 is no, anything else yes (`flag`)
@@ -47,29 +40,18 @@ abbrev pub packet_frame : ℕ → ℕ → List ℕ → PacketFrame
 packet_frame final n p = record { payload = p; counter = counter_for final n }
 
 -- the symbols of a body of kind k: 1 for other than 46 bytes, then 2 for a kind over 2
-unfoldable pub framed_of : ℕ → List ℕ → Symbols
-framed_of k body = cond (eqb (length body) 46) (cond (ltb 2 k) (unsent OutOfRange) (body_symbols_of (kind_for k) body)) (unsent WrongLength)
+unfoldable pub framed_of : ℕ → List ℕ → Result (List Float) Refusal
+framed_of k body = of_length 46 body (and_then (kind_for k) (λ kind. body_symbols_of kind body))
 
--- ---- memory lent for a frame: 1 where a buffer of it has another length, before anything else; on a refusal it holds what it held
+-- ---- memory lent for a frame: 1 where a buffer of it has another length, before anything else; on a refusal it holds what it held.
+-- r is what the call says, and n the memory after it
 
 -- a LICH: its counter, and five bytes
-pub record LichMemory : Type 0 where
-  pub counter : ℕ
-  pub part : List ℕ
-
-abbrev pub lich_memory : ℕ → List ℕ → LichMemory
+abbrev pub lich_memory : ℕ → List ℕ → LichPart
 lich_memory c p = record { counter = c; part = p }
 
-abbrev pub lich_answer : LichMemory → Counted → Counted
-lich_answer m a = cond (eqb (length m.part) 5) a (counted.Refused WrongLength)
-
-abbrev pub lich_given : Counted → List ℕ → LichMemory → LichMemory
-lich_given (counted.Counter c) part m = lich_memory c part
-lich_given (counted.Refused why) part m = m
-
--- r is what the call says, and n the memory after it
-abbrev pub LichLent : LichRead → LichMemory → ℕ → LichMemory → Type 0
-LichLent read m r n = let a = lich_answer m read.answer in (r ≡ number_of_counted a) × (n ≡ lich_given a read.part m)
+abbrev pub LichLent : Result LichPart Refusal → LichPart → ℕ → LichPart → Type 0
+LichLent read m r n = Lent (of_length 5 m.part read) m r n
 
 -- a stream frame: its index, five bytes, its number, 1 or 0 for the end, and 16 bytes
 pub record StreamMemory : Type 0 where
@@ -82,15 +64,11 @@ pub record StreamMemory : Type 0 where
 abbrev pub stream_memory : ℕ → List ℕ → ℕ → ℕ → List ℕ → StreamMemory
 stream_memory i p n e s = record { index = i; part = p; number = n; end = e; bytes = s }
 
-abbrev pub stream_answer : StreamMemory → Verdict → Verdict
-stream_answer m v = cond (eqb (length m.part) 5 && eqb (length m.bytes) 16) v (Refused WrongLength)
+abbrev pub stream_in_memory : StreamFrame → StreamMemory
+stream_in_memory f = stream_memory f.lich_idx f.lich_part f.frame_number (bit f.end_of_stream) f.stream_data
 
-abbrev pub stream_given : Verdict → StreamFrame → StreamMemory → StreamMemory
-stream_given Done f m = stream_memory f.lich_idx f.lich_part f.frame_number (bit f.end_of_stream) f.stream_data
-stream_given (Refused why) f m = m
-
-abbrev pub StreamLent : StreamRead → StreamMemory → ℕ → StreamMemory → Type 0
-StreamLent read m r n = let v = stream_answer m read.answer in (r ≡ said_of v) × (n ≡ stream_given v read.frame m)
+abbrev pub StreamLent : Result StreamFrame Refusal → StreamMemory → ℕ → StreamMemory → Type 0
+StreamLent read m r n = Lent (of_length 5 m.part (of_length 16 m.bytes (made_of stream_in_memory read))) m r n
 
 -- a packet frame: 1 for the final one or 0, its length or index, and 25 bytes
 pub record PacketMemory : Type 0 where
@@ -101,12 +79,8 @@ pub record PacketMemory : Type 0 where
 abbrev pub packet_memory : ℕ → ℕ → List ℕ → PacketMemory
 packet_memory f n p = record { final = f; number = n; payload = p }
 
-abbrev pub packet_answer : PacketMemory → Verdict → Verdict
-packet_answer m v = cond (eqb (length m.payload) 25) v (Refused WrongLength)
+abbrev pub packet_in_memory : PacketFrame → PacketMemory
+packet_in_memory f = packet_memory (final_of f.counter) (number_in f.counter) f.payload
 
-abbrev pub packet_given : Verdict → PacketFrame → PacketMemory → PacketMemory
-packet_given Done f m = packet_memory (final_of f.counter) (number_in f.counter) f.payload
-packet_given (Refused why) f m = m
-
-abbrev pub PacketLent : PacketRead → PacketMemory → ℕ → PacketMemory → Type 0
-PacketLent read m r n = let v = packet_answer m read.answer in (r ≡ said_of v) × (n ≡ packet_given v read.frame m)
+abbrev pub PacketLent : Result PacketFrame Refusal → PacketMemory → ℕ → PacketMemory → Type 0
+PacketLent read m r n = Lent (of_length 25 m.payload (made_of packet_in_memory read)) m r n

@@ -1,38 +1,33 @@
 -- Gathered LICH parts for C: 30 bytes, and a byte for each of six flags. Assumes nothing.
-use Rattle.std.specs.Prelude.{Bool, false, cond, List, ℕ, eqb, length, get_or}
-use Rattle.laws.specs.Tabled.{tabled}
-use Rattle.refusal.specs.declared.Refusal.TheVariants.{WrongLength}
-use Rattle.refusal.specs.declared.Verdict.{Verdict}
-use Rattle.refusal.specs.declared.Verdict.TheVariants.{Done, Refused}
+use Rattle.std.specs.Prelude.{Bool, List, map, ℕ, Option, Result, Ok}
+use Rattle.refusal.specs.declared.Refusal.{Refusal}
+use Rattle.refusal.specs.Number.{made_of}
+use Rattle.bits.specs.Bits.{bit}
 use Rattle.bits.specs.Places.{flag}
-use Rattle.protocol.specs.declared.Assembly.{Assembly}
-use Rattle.protocol.specs.declared.Assembly.TheVariants.{Header, NotYet}
 use Rattle.protocol.specs.declared.LichCollection.{LichCollection}
+use Rattle.protocol.specs.Lich.{part_said, with_part, assembled_of}
+use Rattle.m17.specs.Given.{of_length, and_then}
 
 -- a flag that is not 0 says that its part is set
 abbrev pub flagged : List ℕ → List Bool
-flagged s = tabled (λ k. flag (get_or s k 0)) 6
+flagged s = map flag s
 
--- all six are written: 1 where a part is set, 0 where it is not
+-- each is written: 1 where a part is set, 0 where it is not
 abbrev pub flag_bytes : List Bool → List ℕ
-flag_bytes l = tabled (λ k. cond (get_or l k false) 1 0) 6
-
-abbrev pub collection_for : List ℕ → List ℕ → LichCollection
-collection_for parts flags = record { bytes = parts; set = flagged flags }
+flag_bytes l = map bit l
 
 -- 1 where there are not six flags
-abbrev pub six_flags : List ℕ → Verdict → Verdict
-six_flags flags w = cond (eqb (length flags) 6) w (Refused WrongLength)
+abbrev pub flags_for : List ℕ → Result (List Bool) Refusal
+flags_for flags = of_length 6 flags (Ok (flagged flags))
 
--- 1 where there are not thirty bytes of parts or not six flags, else w
-abbrev pub both_long : List ℕ → List ℕ → Verdict → Verdict
-both_long parts flags w = cond (eqb (length parts) 30) (six_flags flags w) (Refused WrongLength)
+-- 1 where there are not thirty bytes of parts or not six flags
+abbrev pub collection_for : List ℕ → List ℕ → Result LichCollection Refusal
+collection_for parts flags = of_length 30 parts (made_of (λ set. record { bytes = parts; set = set }) (flags_for flags))
 
--- the same, and 1 where there are not thirty bytes for the header
-abbrev pub all_long : List ℕ → List ℕ → List ℕ → Verdict
-all_long parts flags out = both_long parts flags (cond (eqb (length out) 30) Done (Refused WrongLength))
+-- the collection with part c set in it: then as setting it has it
+abbrev pub set_for : ℕ → List ℕ → List ℕ → List ℕ → Result LichCollection Refusal
+set_for c part parts flags = and_then (collection_for parts flags) (λ l. made_of (λ _. with_part c part l) (part_said c part))
 
--- the header, or on "not yet" what was there before
-abbrev pub assembled_given : Assembly → List ℕ → List ℕ → List ℕ
-assembled_given Header bytes old = bytes
-assembled_given NotYet bytes old = old
+-- the header or "not yet", and 1 where there are not thirty bytes lent for it
+abbrev pub assembled_for : List ℕ → List ℕ → List ℕ → Result (Option (List ℕ)) Refusal
+assembled_for parts flags out = and_then (collection_for parts flags) (λ l. of_length 30 out (Ok (assembled_of l)))

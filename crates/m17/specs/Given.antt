@@ -1,67 +1,42 @@
 -- What lent memory holds after an answer: what is answered, and on a refusal what it held before. Assumes nothing.
-use Rattle.std.specs.Prelude.{cond, List, ℕ, eqb, length}
+use Rattle.std.specs.Prelude.{◌≡◌, cond, List, ℕ, eqb, length, Option, Some, None, Result, Ok, Err}
 use Rattle.refusal.specs.Number.{said_of}
+use Rattle.refusal.specs.declared.Refusal.{Refusal}
 use Rattle.refusal.specs.declared.Refusal.TheVariants.{WrongLength}
-use Rattle.refusal.specs.declared.Verdict.{Verdict}
-use Rattle.refusal.specs.declared.Verdict.TheVariants as verdict
-use Rattle.bits.specs.declared.Bit.{Bit}
-use Rattle.bits.specs.declared.Bit.TheVariants as bit
-use Rattle.bits.specs.declared.NextBit.{NextBit}
-use Rattle.bits.specs.declared.NextBit.TheVariants as next
-use Rattle.address.specs.declared.Address.{Address}
-use Rattle.address.specs.declared.Heard.{Heard}
-use Rattle.address.specs.declared.Heard.TheVariants as heard
-use Rattle.golay.specs.declared.Codeword.{Codeword}
-use Rattle.golay.specs.declared.Codeword.TheVariants as codeword
-use Rattle.golay.specs.declared.Reading.{Reading}
-use Rattle.golay.specs.declared.Reading.TheVariants as reading
 
-abbrev pub bit_given : Bit → ℕ → ℕ
-bit_given (bit.Value b) old = b
-bit_given (bit.Refused why) old = old
-
--- 1 with a bit, 0 at the end
-abbrev pub read_number : NextBit → ℕ
-read_number (next.Value b) = 1
-read_number next.End = 0
-
-abbrev pub next_given : NextBit → ℕ → ℕ
-next_given (next.Value b) old = b
-next_given next.End old = old
-
-abbrev pub bytes_given : {A : Type 0} → Verdict → List A → List A → List A
-bytes_given verdict.Done bytes old = bytes
-bytes_given (verdict.Refused why) bytes old = old
-
-abbrev pub number_given : Verdict → ℕ → ℕ → ℕ
-number_given verdict.Done n old = n
-number_given (verdict.Refused why) n old = old
+abbrev pub given : {A : Type 0} → Result A Refusal → A → A
+given (Ok x) old = x
+given (Err why) old = old
 
 -- a buffer of n bytes, or symbols, lent for the answer: 1 where it has another length, before anything else
-abbrev pub lent_said : {A : Type 0} → ℕ → List A → Verdict → ℕ
-lent_said n old v = cond (eqb (length old) n) (said_of v) 1
+abbrev pub lent_said : {A : Type 0} → ℕ → List A → Result (List A) Refusal → ℕ
+lent_said n old r = cond (eqb (length old) n) (said_of r) 1
 
-abbrev pub lent_bytes : {A : Type 0} → ℕ → List A → Verdict → List A → List A
-lent_bytes n old v bytes = cond (eqb (length old) n) (bytes_given v bytes old) old
+abbrev pub lent_bytes : {A : Type 0} → ℕ → List A → Result (List A) Refusal → List A
+lent_bytes n old r = cond (eqb (length old) n) (given r old) old
 
-abbrev pub word_given : Codeword → ℕ → ℕ
-word_given (codeword.Word w) old = w
-word_given (codeword.Refused why) old = old
+-- memory of several parts lent for the answer: what is said, and the memory after it
+abbrev pub Lent : {A : Type 0} → Result A Refusal → A → ℕ → A → Type 0
+Lent r old said new = (said ≡ said_of r) × (new ≡ given r old)
 
-abbrev pub data_given : Reading → ℕ → ℕ
-data_given (reading.Data d) old = d
-data_given (reading.Refused why) old = old
+-- ---- answers one after another
 
--- reading an address, with a buffer of nine bytes lent for its characters: 1 where it has another length
-abbrev pub heard_into : List ℕ → Heard → Heard
-heard_into old h = cond (eqb (length old) 9) h (heard.Refused WrongLength)
+-- what takes n bytes, or symbols: 1 where there are not as many, before anything else
+abbrev pub of_length : {A B : Type 0} → ℕ → List B → Result A Refusal → Result A Refusal
+of_length n s r = cond (eqb (length s) n) r (Err WrongLength)
 
--- a number of the address that was read
-abbrev pub heard_given : (Address → ℕ) → Heard → ℕ → ℕ
-heard_given f (heard.Read a) old = f a
-heard_given f (heard.Refused why) old = old
+-- the first refusal, or what f answers of the first answer
+abbrev pub and_then : {A B : Type 0} → Result A Refusal → (A → Result B Refusal) → Result B Refusal
+and_then (Ok x) f = f x
+and_then (Err why) f = Err why
 
--- the nine characters beside it
-abbrev pub characters_given : Heard → List ℕ → List ℕ → List ℕ
-characters_given (heard.Read a) nine old = nine
-characters_given (heard.Refused why) nine old = old
+-- ---- where an answer may be missing, which is no refusal
+
+-- 1 where there is one, 0 where there is none
+abbrev pub there : {A : Type 0} → Option A → ℕ
+there (Some x) = 1
+there None = 0
+
+abbrev pub given_there : {A : Type 0} → Option A → A → A
+given_there (Some x) old = x
+given_there None old = old

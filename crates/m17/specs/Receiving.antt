@@ -1,13 +1,13 @@
 -- The slot receiver's state and answers as structs of numbers and arrays. Assumes nothing.
 use Rattle.std.specs.Prelude.{cond, ℕ, eqb}
-use Rattle.refusal.specs.Number.{number_of}
+use Rattle.refusal.specs.Number.{number_of, said_of}
 use Rattle.refusal.specs.declared.Refusal.TheVariants.{WrongLength, BadState}
 use Rattle.bits.specs.Bits.{bit}
 use Rattle.receiver.specs.declared.Phase.{Phase}
 use Rattle.receiver.specs.declared.Phase.TheVariants.{Idle, Packet, Gathering}
 use Rattle.receiver.specs.declared.Receiver.{Receiver}
 use Rattle.receiver.specs.declared.Received.{Received}
-use Rattle.receiver.specs.Numbers.{answer_number, answer_count, answer_said}
+use Rattle.receiver.specs.Numbers.{answer_number, answer_count, header_in, stream_in}
 use Rattle.m17.specs.declared.M17Receiver.{M17Receiver}
 use Rattle.m17.specs.declared.M17Received.{M17Received}
 
@@ -46,13 +46,13 @@ abbrev pub crossed : M17Receiver → Received → M17Received
 crossed s r =
     record {
       number = answer_count r.answer;
-      next = next_for (answer_said r.answer) s r.next;
-      frame_number = r.stream.frame_number;
-      said = answer_said r.answer;
+      next = next_for (said_of r.answer) s r.next;
+      frame_number = (stream_in r.answer).frame_number;
+      said = said_of r.answer;
       answer = answer_number r.answer;
-      header = r.header;
-      lich_idx = r.stream.lich_idx;
-      lich_part = r.stream.lich_part;
-      end_of_stream = bit r.stream.end_of_stream;
-      stream_data = r.stream.stream_data;
+      header = header_in r.answer;
+      lich_idx = (stream_in r.answer).lich_idx;
+      lich_part = (stream_in r.answer).lich_part;
+      end_of_stream = bit (stream_in r.answer).end_of_stream;
+      stream_data = (stream_in r.answer).stream_data;
     }

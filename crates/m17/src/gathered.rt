@@ -1,132 +1,91 @@
 // Gathered LICH parts for C: 30 bytes, and a byte for each of six flags.
-ghost use Rattle.std.specs.Prelude.{◌≡◌, cond, length};
-ghost use Rattle.refusal.specs.Number.{said_of};
-ghost use Rattle.refusal.specs.declared.Verdict.TheVariants as verdict;
-ghost use Rattle.bits.specs.Places.{flag};
-ghost use Rattle.protocol.specs.Lich.{flags_set, set_of, assembled_number, assembled_of};
-ghost use Rattle.m17.specs.Given.{number_given, bytes_given, lent_said, lent_bytes};
-ghost use Rattle.m17.specs.Gathered.{flagged, flag_bytes, collection_for, six_flags, both_long, all_long, assembled_given};
+ghost use Rattle.std.specs.Prelude.{◌≡◌};
+ghost use Rattle.refusal.specs.Number.{said_of, made_of};
+ghost use Rattle.protocol.specs.Lich.{flags_set};
+ghost use Rattle.m17.specs.Given.{given, there, given_there};
+ghost use Rattle.m17.specs.Gathered.{flagged, flag_bytes, flags_for, collection_for, set_for, assembled_for};
 
-use super::give;
-use protocol::{Assembly, LichCollection, LsfFrame};
-use refusal::Verdict;
+use super::{give_number, give_there};
+use protocol::LichCollection;
+use refusal::Refusal;
 
-fn flag(byte: u8) -> bool
-    ensures { result ≡ flag byte }
+fn flagged(bytes: [u8; 6]) -> [bool; 6]
+    ensures { result ≡ flagged bytes }
 {
-    byte != 0
-}
-
-fn byte(flag: bool) -> u8
-    ensures { result ≡ cond flag 1 0 }
-{
-    if flag {
-        return 1;
-    }
-    0
-}
-
-fn flags_of(set: &[u8]) -> [bool; 6]
-    requires { length set.now ≡ 6 }
-    ensures { result ≡ flagged set.now }
-{
-    [
-        flag(set[0]),
-        flag(set[1]),
-        flag(set[2]),
-        flag(set[3]),
-        flag(set[4]),
-        flag(set[5]),
-    ]
+    bytes.map(|byte| byte != 0)
 }
 
 fn flag_bytes(flags: [bool; 6]) -> [u8; 6]
     ensures { result ≡ flag_bytes flags }
 {
-    [
-        byte(flags[0]),
-        byte(flags[1]),
-        byte(flags[2]),
-        byte(flags[3]),
-        byte(flags[4]),
-        byte(flags[5]),
-    ]
+    flags.map(|flag| u8::from(flag))
 }
 
-fn collection(parts: &[u8], set: &[u8]) -> LichCollection
-    requires { (length parts.now ≡ 30) × (length set.now ≡ 6) }
+fn flags_of(set: &[u8]) -> Result<[bool; 6], Refusal>
+    ensures { result ≡ flags_for set.now }
+{
+    let bytes = <[u8; 6]>::try_from(set).map_err(|_| Refusal::WrongLength)?;
+    Ok(flagged(bytes))
+}
+
+fn collection(parts: &[u8], set: &[u8]) -> Result<LichCollection, Refusal>
     ensures { result ≡ collection_for parts.now set.now }
 {
-    let made = LsfFrame::from_bytes(parts);
-    let header = made.header;
-    let bytes = header.bytes;
-    let flags = flags_of(set);
-    LichCollection { bytes, set: flags }
+    let bytes = <[u8; 30]>::try_from(parts).map_err(|_| Refusal::WrongLength)?;
+    let set = flags_of(set)?;
+    Ok(LichCollection { bytes, set })
+}
+
+fn valid_segments(set: &[u8]) -> Result<u8, Refusal>
+    ensures { result ≡ made_of flags_set (flags_for set.now) }
+{
+    let set = flags_of(set)?;
+    let bytes = [0u8; 30];
+    Ok(LichCollection { bytes, set }.valid_segments() as u8)
 }
 
 pub fn m17_valid_segments(set: &[u8], out: &mut u8) -> u8
-    ensures { (result ≡ said_of (six_flags set.now verdict.Done)) × (out.new ≡ number_given (six_flags set.now verdict.Done) (flags_set (flagged set.now)) out.old) }
+    ensures { (result ≡ said_of (made_of flags_set (flags_for set.now))) × (out.new ≡ given (made_of flags_set (flags_for set.now)) out.old) }
 {
-    if set.len() != 6 {
-        return 1;
-    }
-    let flags = flags_of(set);
-    let collection = LichCollection {
-        bytes: [0u8; 30],
-        set: flags,
-    };
-    *out = collection.valid_segments() as u8;
-    0
+    give_number(valid_segments(set), out)
 }
 
-fn give_parts(answer: Verdict, new: LichCollection, parts: &mut [u8]) -> u8
-    ensures { (result ≡ lent_said 30 parts.old answer) × (parts.new ≡ lent_bytes 30 parts.old answer new.bytes) }
+fn with_segment(
+    parts: &[u8],
+    set: &[u8],
+    counter: u8,
+    part: &[u8],
+) -> Result<LichCollection, Refusal>
+    ensures { result ≡ set_for counter part.now parts.now set.now }
 {
-    let bytes = new.bytes;
-    give(answer, &bytes, parts)
+    let mut new = collection(parts, set)?;
+    new.set_segment(counter, part)?;
+    Ok(new)
 }
 
 pub fn m17_set_segment(parts: &mut [u8], set: &mut [u8], counter: u8, part: &[u8]) -> u8
-    ensures { (result ≡ said_of (both_long parts.old set.old (set_of counter part.now (collection_for parts.old set.old)).answer)) × (parts.new ≡ bytes_given (both_long parts.old set.old (set_of counter part.now (collection_for parts.old set.old)).answer) (set_of counter part.now (collection_for parts.old set.old)).collection.bytes parts.old) × (set.new ≡ bytes_given (both_long parts.old set.old (set_of counter part.now (collection_for parts.old set.old)).answer) (flag_bytes (set_of counter part.now (collection_for parts.old set.old)).collection.set) set.old) }
+    ensures { (result ≡ said_of (set_for counter part.now parts.old set.old)) × (parts.new ≡ given (made_of (λ new. new.bytes) (set_for counter part.now parts.old set.old)) parts.old) × (set.new ≡ given (made_of (λ new. flag_bytes new.set) (set_for counter part.now parts.old set.old)) set.old) }
 {
-    if parts.len() != 30 {
-        return 1;
+    let answer = with_segment(parts, set, counter, part);
+    if let Ok(new) = answer {
+        parts.copy_from_slice(&new.bytes);
+        set.copy_from_slice(&flag_bytes(new.set));
     }
-    if set.len() != 6 {
-        return 1;
-    }
-    let done = collection(parts, set).set_segment(counter, part);
-    let answer = done.answer;
-    let new = done.collection;
-    let flags = new.set;
-    let six = flag_bytes(flags);
-    give(answer, &six, set);
-    give_parts(answer, new, parts)
+    refusal::said(answer)
 }
 
 pub fn m17_try_assemble(parts: &[u8], set: &[u8], assembled: &mut u8, out: &mut [u8]) -> u8
-    ensures { (result ≡ said_of (all_long parts.now set.now out.old)) × (assembled.new ≡ number_given (all_long parts.now set.now out.old) (assembled_number (assembled_of (collection_for parts.now set.now)).answer) assembled.old) × (out.new ≡ bytes_given (all_long parts.now set.now out.old) (assembled_given (assembled_of (collection_for parts.now set.now)).answer (assembled_of (collection_for parts.now set.now)).bytes out.old) out.old) }
+    ensures { (result ≡ said_of (assembled_for parts.now set.now out.old)) × (assembled.new ≡ given (made_of there (assembled_for parts.now set.now out.old)) assembled.old) × (out.new ≡ given (made_of (λ header. given_there header out.old) (assembled_for parts.now set.now out.old)) out.old) }
 {
-    if parts.len() != 30 {
-        return 1;
+    // What is lent goes back as it was where no header is assembled.
+    // kept: `let .. else` serves the refusals, as document 01 has it.
+    let Ok(mut bytes) = <[u8; 30]>::try_from(&*out) else {
+        return u8::from(Refusal::WrongLength);
+    };
+    let gathered = collection(parts, set);
+    if let Ok(lich) = gathered {
+        give_there(lich.try_assemble(), assembled, &mut bytes);
+        out.copy_from_slice(&bytes);
     }
-    if set.len() != 6 {
-        return 1;
-    }
-    if out.len() != 30 {
-        return 1;
-    }
-    let done = collection(parts, set).try_assemble();
-    let answer = done.answer;
-    match answer {
-        Assembly::Header => {
-            *assembled = 1;
-            let bytes = done.bytes;
-            give(Verdict::Done, &bytes, out)
-        }
-        Assembly::NotYet => {
-            *assembled = 0;
-            0
-        }
-    }
+    refusal::said(gathered)
 }

@@ -1,60 +1,73 @@
 // The codec for C and Rust. A function that can refuse returns 0 or the number of its refusal, and writes what it answers
 // through lent memory, which a refusal leaves as it was.
+// kept: where the C interface has them so, a number stands for a kind, a flag beside a value, an address or a frame crosses as its fields,
+// and two functions stand that differ in a name or a kind.
 #![tactic(auto)]
 
 ghost use Rattle.std.specs.Prelude.{◌≡◌, length};
 ghost use Rattle.refusal.specs.Number.{said_of};
 ghost use Rattle.bits.specs.Bits.{bit};
-ghost use Rattle.bits.specs.Places.{get_of, set_of, with_bit, number_of_bit};
-ghost use Rattle.bits.specs.Reader.{next_of, step_of};
+ghost use Rattle.bits.specs.Places.{get_of, set_of, with_bit};
+ghost use Rattle.bits.specs.Reader.{next_of, place_after};
 ghost use Rattle.crc.specs.Crc.{crc_from, crc};
 ghost use Rattle.random.specs.Random.{xored};
 ghost use Rattle.interleave.specs.Interleave.{interleaved_of};
-ghost use Rattle.address.specs.Address.{decoded_of as addressReadOf, number_of_heard, unwritten};
-ghost use Rattle.golay.specs.Golay.{encoded_of, decoded_of, number_of_codeword, number_of_reading};
-ghost use Rattle.m17.specs.Given.{bit_given, read_number, next_given, number_given, lent_said, lent_bytes, word_given, data_given, heard_into, heard_given, characters_given};
+ghost use Rattle.address.specs.Address.{decoded_of as addressReadOf};
+ghost use Rattle.golay.specs.Golay.{encoded_of, decoded_of};
+ghost use Rattle.m17.specs.Given.{given, there, given_there, lent_said, lent_bytes, of_length};
 ghost use Rattle.m17.specs.Fec.{kind_for, coded_of, kind_read_of};
-ghost use Rattle.m17.specs.Addresses.{address_kind, reserved_of, address_for, address_written_of};
+ghost use Rattle.m17.specs.Header.{header_bytes};
+ghost use Rattle.m17.specs.Addresses.{address_kind, reserved_of, address_for, station_for, address_written_of, address_memory, AddressLent};
 
 pub mod frames;
 pub mod gathered;
 pub mod header;
 pub mod receiving;
 
-use address::{Address, Heard, Written};
-use bits::{Bit, NextBit};
-use fec::{Coded, Decoded, Kind};
-use golay::{Codeword, Reading};
-use refusal::{Refusal, Verdict};
+use address::{Address, Station};
+use fec::Kind;
+use protocol::LsfFrame;
+use refusal::Refusal;
 
-// The bytes of an answer, written where nothing is refused. The length of `out` is judged first.
-fn give(answer: Verdict, bytes: &[u8], out: &mut [u8]) -> u8
-    ensures { (result ≡ lent_said (length bytes.now) out.old answer) × (out.new ≡ lent_bytes (length bytes.now) out.old answer bytes.now) }
+// One number of an answer, written where nothing is refused.
+fn give_number<T: Copy>(answer: Result<T, Refusal>, out: &mut T) -> u8
+    ensures { (result ≡ said_of answer) × (out.new ≡ given answer out.old) }
 {
-    if out.len() != bytes.len() {
-        return 1;
+    let said = refusal::said(answer);
+    if let Ok(number) = answer {
+        *out = number;
     }
-    if let Verdict::Refused(why) = answer {
-        return refusal::number(why);
-    }
-    let mut i = 0;
-    while i < out.len() {
-        out[i] = bytes[i];
-        i += 1;
-    }
-    0
+    said
 }
 
-// The number of an answer, written where nothing is refused.
-fn give_number(answer: Verdict, number: u8, out: &mut u8) -> u8
-    ensures { (result ≡ said_of answer) × (out.new ≡ number_given answer number out.old) }
+// The bytes or symbols of an answer, written where nothing is refused. The length of `out` is judged first.
+fn give<T: Copy, const N: usize>(answer: Result<[T; N], Refusal>, out: &mut [T]) -> u8
+    ensures { (result ≡ lent_said N out.old answer) × (out.new ≡ lent_bytes N out.old answer) }
 {
-    match answer {
-        Verdict::Done => {
-            *out = number;
-            0
-        }
-        Verdict::Refused(why) => refusal::number(why),
+    if out.len() != N {
+        return u8::from(Refusal::WrongLength);
+    }
+    let said = refusal::said(answer);
+    if let Ok(bytes) = answer {
+        out.copy_from_slice(&bytes);
+    }
+    said
+}
+
+// The bytes of a header that is answered.
+fn header_bytes(read: Result<LsfFrame, Refusal>) -> Result<[u8; 30], Refusal>
+    ensures { result ≡ header_bytes read }
+{
+    Ok(read?.bytes)
+}
+
+// What may be missing, written where it is there: `read` is 1 with it, 0 without.
+fn give_there<T: Copy>(answer: Option<T>, read: &mut u8, out: &mut T)
+    ensures { (read.new ≡ there answer) × (out.new ≡ given_there answer out.old) }
+{
+    *read = u8::from(answer.is_some());
+    if let Some(value) = answer {
+        *out = value;
     }
 }
 
@@ -83,26 +96,10 @@ pub struct M17Received {
     pub stream_data: [u8; 16],
 }
 
-// Yes and no as a number.
-fn flag(yes: bool) -> u8
-    ensures { result ≡ bit yes }
-{
-    if yes {
-        return 1;
-    }
-    0
-}
-
 pub fn m17_get_bit(bytes: &[u8], place: usize, out: &mut u8) -> u8
-    ensures { (result ≡ number_of_bit (get_of bytes.now place)) × (out.new ≡ bit_given (get_of bytes.now place) out.old) }
+    ensures { (result ≡ said_of (get_of bytes.now place)) × (out.new ≡ given (get_of bytes.now place) out.old) }
 {
-    match bits::get_bit(bytes, place) {
-        Bit::Value(b) => {
-            *out = b;
-            0
-        }
-        Bit::Refused(why) => refusal::number(why),
-    }
+    give_number(bits::get_bit(bytes, place), out)
 }
 
 pub fn m17_set_bit(bytes: &mut [u8], place: usize, value: u8) -> u8
@@ -113,20 +110,9 @@ pub fn m17_set_bit(bytes: &mut [u8], place: usize, value: u8) -> u8
 
 // The end is no refusal: `read` is 1 with a bit, 0 at the end.
 pub fn m17_next_bit(bytes: &[u8], place: &mut usize, read: &mut u8, out: &mut u8)
-    ensures { (place.new ≡ (step_of bytes.now place.old).place) × (read.new ≡ read_number (next_of bytes.now place.old)) × (out.new ≡ next_given (next_of bytes.now place.old) out.old) }
+    ensures { (place.new ≡ place_after bytes.now place.old) × (read.new ≡ there (next_of bytes.now place.old)) × (out.new ≡ given_there (next_of bytes.now place.old) out.old) }
 {
-    let step = bits::next_bit(bytes, *place);
-    *place = step.place;
-    let bit = step.bit;
-    match bit {
-        NextBit::Value(b) => {
-            *read = 1;
-            *out = b;
-        }
-        NextBit::End => {
-            *read = 0;
-        }
-    }
+    give_there(bits::next_bit(bytes, place), read, out)
 }
 
 pub fn m17_crc(input: &[u8]) -> u16
@@ -148,38 +134,24 @@ pub fn m17_random_xor(bytes: &mut [u8])
 }
 
 pub fn m17_interleave(payload: &[u8], out: &mut [u8]) -> u8
-    ensures { (result ≡ lent_said 46 out.old (interleaved_of payload.now).answer) × (out.new ≡ lent_bytes 46 out.old (interleaved_of payload.now).answer (interleaved_of payload.now).bytes) }
+    ensures { (result ≡ lent_said 46 out.old (interleaved_of payload.now)) × (out.new ≡ lent_bytes 46 out.old (interleaved_of payload.now)) }
 {
-    let done = interleave::interleave(payload);
-    let answer = done.answer;
-    let bytes = done.bytes;
-    give(answer, &bytes, out)
+    give(interleave::interleave(payload), out)
 }
 
 pub fn m17_golay_encode(value: u16, out: &mut u32) -> u8
-    ensures { (result ≡ number_of_codeword (encoded_of value)) × (out.new ≡ word_given (encoded_of value) out.old) }
+    ensures { (result ≡ said_of (encoded_of value)) × (out.new ≡ given (encoded_of value) out.old) }
 {
-    match golay::encode(value) {
-        Codeword::Word(w) => {
-            *out = w;
-            0
-        }
-        Codeword::Refused(why) => refusal::number(why),
-    }
+    give_number(golay::encode(value), out)
 }
 
 pub fn m17_golay_decode(word: u32, out: &mut u16) -> u8
-    ensures { (result ≡ number_of_reading (decoded_of word)) × (out.new ≡ data_given (decoded_of word) out.old) }
+    ensures { (result ≡ said_of (decoded_of word)) × (out.new ≡ given (decoded_of word) out.old) }
 {
-    match golay::decode(word) {
-        Reading::Data(d) => {
-            *out = d;
-            0
-        }
-        Reading::Refused(why) => refusal::number(why),
-    }
+    give_number(golay::decode(word), out)
 }
 
+// kept: numbers and the types of other crates are turned into each other by functions, since an impl of `From` for both is none of this crate's.
 fn kind_of(address: Address) -> u8
     ensures { result ≡ address_kind address }
 {
@@ -195,132 +167,106 @@ fn reserved_of(address: Address) -> u64
     ensures { result ≡ reserved_of address }
 {
     match address {
-        Address::Invalid => 0,
-        Address::Callsign => 0,
         Address::Reserved(value) => value,
-        Address::Broadcast => 0,
+        _ => 0,
     }
 }
 
 // An address that was read, with its characters. The length of `out` is judged first.
-fn give_address(read: address::Reading, kind: &mut u8, value: &mut u64, out: &mut [u8]) -> u8
-    ensures { (result ≡ number_of_heard (heard_into out.old read.answer)) × (kind.new ≡ heard_given address_kind (heard_into out.old read.answer) kind.old) × (value.new ≡ heard_given reserved_of (heard_into out.old read.answer) value.old) × (out.new ≡ characters_given (heard_into out.old read.answer) read.callsign out.old) }
+fn give_address(
+    read: Result<address::Reading, Refusal>,
+    kind: &mut u8,
+    value: &mut u64,
+    out: &mut [u8],
+) -> u8
+    ensures { AddressLent read (address_memory kind.old value.old out.old) result (address_memory kind.new value.new out.new) }
 {
     if out.len() != 9 {
-        return 1;
+        return u8::from(Refusal::WrongLength);
     }
-    let answer = read.answer;
-    match answer {
-        Heard::Read(a) => {
-            let characters = read.callsign;
-            *kind = kind_of(a);
-            *value = reserved_of(a);
-            give(Verdict::Done, &characters, out)
-        }
-        Heard::Refused(why) => refusal::number(why),
+    if let Ok(reading) = read {
+        *kind = kind_of(reading.address);
+        *value = reserved_of(reading.address);
+        out.copy_from_slice(&reading.callsign);
     }
+    refusal::said(read)
 }
 
 pub fn m17_decode_address(encoded: &[u8], kind: &mut u8, value: &mut u64, callsign: &mut [u8]) -> u8
-    ensures { (result ≡ number_of_heard (heard_into callsign.old (addressReadOf encoded.now).answer)) × (kind.new ≡ heard_given address_kind (heard_into callsign.old (addressReadOf encoded.now).answer) kind.old) × (value.new ≡ heard_given reserved_of (heard_into callsign.old (addressReadOf encoded.now).answer) value.old) × (callsign.new ≡ characters_given (heard_into callsign.old (addressReadOf encoded.now).answer) (addressReadOf encoded.now).callsign callsign.old) }
+    ensures { AddressLent (addressReadOf encoded.now) (address_memory kind.old value.old callsign.old) result (address_memory kind.new value.new callsign.new) }
 {
     give_address(address::decode_address(encoded), kind, value, callsign)
 }
 
-fn address_for(kind: u8, value: u64) -> Address
+fn address_for(kind: u8, value: u64) -> Result<Address, Refusal>
     ensures { result ≡ address_for kind value }
 {
-    if kind == 0 {
-        Address::Invalid
-    } else if kind == 1 {
-        Address::Callsign
-    } else if kind == 2 {
-        Address::Reserved(value)
-    } else {
-        Address::Broadcast
+    match kind {
+        0 => Ok(Address::Invalid),
+        1 => Ok(Address::Callsign),
+        2 => Ok(Address::Reserved(value)),
+        3 => Ok(Address::Broadcast),
+        _ => Err(Refusal::OutOfRange),
     }
 }
 
-fn unwritten_address(why: Refusal) -> Written
-    ensures { result ≡ unwritten why }
-{
-    Written {
-        answer: Verdict::Refused(why),
-        bytes: [0u8; 6],
-    }
-}
-
-fn written_address(kind: u8, value: u64, callsign: &[u8]) -> Written
-    ensures { result ≡ address_written_of kind value callsign.now }
+// What is written: 1 where there are not nine characters, before a kind over 3 is refused with 2.
+fn station(kind: u8, value: u64, callsign: &[u8]) -> Result<Station<'_>, Refusal>
+    ensures { result ≡ station_for kind value callsign.entry }
 {
     if callsign.len() != 9 {
-        return unwritten_address(Refusal::WrongLength);
+        return Err(Refusal::WrongLength);
     }
-    if 3 < kind {
-        return unwritten_address(Refusal::OutOfRange);
-    }
-    address::encode_address(address_for(kind, value), callsign)
+    let address = address_for(kind, value)?;
+    Ok(Station { address, callsign })
+}
+
+#[tactic(auto, unfolding(crate::specs::Addresses::address_written_of))]
+fn written_address(kind: u8, value: u64, callsign: &[u8]) -> Result<[u8; 6], Refusal>
+    ensures { result ≡ address_written_of kind value callsign.now }
+{
+    address::encode_address(station(kind, value, callsign)?)
 }
 
 pub fn m17_encode_address(kind: u8, value: u64, callsign: &[u8], out: &mut [u8]) -> u8
-    ensures { (result ≡ lent_said 6 out.old (address_written_of kind value callsign.now).answer) × (out.new ≡ lent_bytes 6 out.old (address_written_of kind value callsign.now).answer (address_written_of kind value callsign.now).bytes) }
+    ensures { (result ≡ lent_said 6 out.old (address_written_of kind value callsign.now)) × (out.new ≡ lent_bytes 6 out.old (address_written_of kind value callsign.now)) }
 {
-    let done = written_address(kind, value, callsign);
-    let answer = done.answer;
-    let bytes = done.bytes;
-    give(answer, &bytes, out)
+    give(written_address(kind, value, callsign), out)
 }
 
-fn kind_for(kind: u8) -> Kind
+fn kind_for(kind: u8) -> Result<Kind, Refusal>
     ensures { result ≡ kind_for kind }
 {
-    if kind == 0 {
-        return Kind::Header;
+    match kind {
+        0 => Ok(Kind::Header),
+        1 => Ok(Kind::Stream),
+        2 => Ok(Kind::Packet),
+        _ => Err(Refusal::OutOfRange),
     }
-    if kind == 1 {
-        return Kind::Stream;
-    }
-    Kind::Packet
 }
 
-fn coded(kind: u8, plain: &[u8]) -> Coded
+#[tactic(auto, unfolding(crate::specs::Fec::coded_of))]
+fn coded(kind: u8, plain: &[u8]) -> Result<[u8; 46], Refusal>
     ensures { result ≡ coded_of kind plain.now }
 {
-    if 2 < kind {
-        return Coded {
-            answer: Verdict::Refused(Refusal::OutOfRange),
-            bytes: [0u8; 46],
-        };
-    }
-    fec::encode(kind_for(kind), plain)
+    fec::encode(kind_for(kind)?, plain)
 }
 
-fn read(kind: u8, received: &[u8]) -> Decoded
+#[tactic(auto, unfolding(crate::specs::Fec::kind_read_of))]
+fn read(kind: u8, received: &[u8]) -> Result<[u8; 30], Refusal>
     ensures { result ≡ kind_read_of kind received.now }
 {
-    if 2 < kind {
-        return Decoded {
-            answer: Verdict::Refused(Refusal::OutOfRange),
-            bytes: [0u8; 30],
-        };
-    }
-    fec::decode(kind_for(kind), received)
+    fec::decode(kind_for(kind)?, received)
 }
 
 pub fn m17_fec_encode(kind: u8, plain: &[u8], out: &mut [u8]) -> u8
-    ensures { (result ≡ lent_said 46 out.old (coded_of kind plain.now).answer) × (out.new ≡ lent_bytes 46 out.old (coded_of kind plain.now).answer (coded_of kind plain.now).bytes) }
+    ensures { (result ≡ lent_said 46 out.old (coded_of kind plain.now)) × (out.new ≡ lent_bytes 46 out.old (coded_of kind plain.now)) }
 {
-    let done = coded(kind, plain);
-    let answer = done.answer;
-    let bytes = done.bytes;
-    give(answer, &bytes, out)
+    give(coded(kind, plain), out)
 }
 
 pub fn m17_fec_decode(kind: u8, received: &[u8], out: &mut [u8]) -> u8
-    ensures { (result ≡ lent_said 30 out.old (kind_read_of kind received.now).answer) × (out.new ≡ lent_bytes 30 out.old (kind_read_of kind received.now).answer (kind_read_of kind received.now).bytes) }
+    ensures { (result ≡ lent_said 30 out.old (kind_read_of kind received.now)) × (out.new ≡ lent_bytes 30 out.old (kind_read_of kind received.now)) }
 {
-    let done = read(kind, received);
-    let answer = done.answer;
-    let bytes = done.bytes;
-    give(answer, &bytes, out)
+    give(read(kind, received), out)
 }

@@ -9,11 +9,12 @@ ghost use Rattle.decode.specs.Lich.{lich_read_of};
 ghost use Rattle.decode.specs.Bodies.{lsf_read_of, stream_read_of, packet_read_of};
 ghost use Rattle.decode.specs.Symbols.{body_read_of, initial_of, lsf_parsed_of, stream_parsed_of, packet_parsed_of};
 ghost use Rattle.m17.specs.Given.{lent_said, lent_bytes};
+ghost use Rattle.m17.specs.Header.{header_bytes};
 ghost use Rattle.m17.specs.Frames.{counter_for, lsf_frame, stream_frame, packet_frame, framed_of, lich_memory, LichLent, stream_memory, StreamLent, packet_memory, PacketLent};
 
 #[unsafe(no_mangle)]
 pub extern "C" fn m17_encode_lich(counter: u8, part: &[u8], out: &mut [u8]) -> u8
-    ensures { (result ≡ lent_said 12 out.old (lich_of counter part.now).answer) × (out.new ≡ lent_bytes 12 out.old (lich_of counter part.now).answer (lich_of counter part.now).bytes) }
+    ensures { (result ≡ lent_said 12 out.old (lich_of counter part.now)) × (out.new ≡ lent_bytes 12 out.old (lich_of counter part.now)) }
 {
     m17::frames::m17_encode_lich(counter, part, out)
 }
@@ -27,14 +28,14 @@ pub extern "C" fn m17_decode_lich(lich: &[u8], counter: &mut u8, part: &mut [u8]
 
 #[unsafe(no_mangle)]
 pub extern "C" fn m17_write_lsf(header: &[u8], out: &mut [u8]) -> u8
-    ensures { (result ≡ lent_said 46 out.old (lsf_body_of header.now).answer) × (out.new ≡ lent_bytes 46 out.old (lsf_body_of header.now).answer (lsf_body_of header.now).bytes) }
+    ensures { (result ≡ lent_said 46 out.old (lsf_body_of header.now)) × (out.new ≡ lent_bytes 46 out.old (lsf_body_of header.now)) }
 {
     m17::frames::m17_write_lsf(header, out)
 }
 
 #[unsafe(no_mangle)]
 pub extern "C" fn m17_read_lsf(body: &[u8], out: &mut [u8]) -> u8
-    ensures { (result ≡ lent_said 30 out.old (lsf_read_of body.now).answer) × (out.new ≡ lent_bytes 30 out.old (lsf_read_of body.now).answer (lsf_read_of body.now).frame.bytes) }
+    ensures { (result ≡ lent_said 30 out.old (header_bytes (lsf_read_of body.now))) × (out.new ≡ lent_bytes 30 out.old (header_bytes (lsf_read_of body.now))) }
 {
     m17::frames::m17_read_lsf(body, out)
 }
@@ -48,7 +49,7 @@ pub extern "C" fn m17_write_stream(
     stream_data: &[u8],
     out: &mut [u8],
 ) -> u8
-    ensures { (result ≡ lent_said 46 out.old (stream_body_of lich_idx lich_part.now frame_number (flag end_of_stream) stream_data.now).answer) × (out.new ≡ lent_bytes 46 out.old (stream_body_of lich_idx lich_part.now frame_number (flag end_of_stream) stream_data.now).answer (stream_body_of lich_idx lich_part.now frame_number (flag end_of_stream) stream_data.now).bytes) }
+    ensures { (result ≡ lent_said 46 out.old (stream_body_of lich_idx lich_part.now frame_number (flag end_of_stream) stream_data.now)) × (out.new ≡ lent_bytes 46 out.old (stream_body_of lich_idx lich_part.now frame_number (flag end_of_stream) stream_data.now)) }
 {
     m17::frames::m17_write_stream(
         lich_idx,
@@ -88,7 +89,7 @@ pub extern "C" fn m17_write_packet(
     payload: &[u8],
     out: &mut [u8],
 ) -> u8
-    ensures { (result ≡ lent_said 46 out.old (packet_body_of (counter_for final_frame number) payload.now).answer) × (out.new ≡ lent_bytes 46 out.old (packet_body_of (counter_for final_frame number) payload.now).answer (packet_body_of (counter_for final_frame number) payload.now).bytes) }
+    ensures { (result ≡ lent_said 46 out.old (packet_body_of (counter_for final_frame number) payload.now)) × (out.new ≡ lent_bytes 46 out.old (packet_body_of (counter_for final_frame number) payload.now)) }
 {
     m17::frames::m17_write_packet(final_frame, number, payload, out)
 }
@@ -107,28 +108,28 @@ pub extern "C" fn m17_read_packet(
 
 #[unsafe(no_mangle)]
 pub extern "C" fn m17_body_to_symbols(kind: u8, body: &[u8], out: &mut [f32]) -> u8
-    ensures { (result ≡ lent_said 192 out.old (framed_of kind body.now).answer) × (out.new ≡ lent_bytes 192 out.old (framed_of kind body.now).answer (framed_of kind body.now).symbols) }
+    ensures { (result ≡ lent_said 192 out.old (framed_of kind body.now)) × (out.new ≡ lent_bytes 192 out.old (framed_of kind body.now)) }
 {
     m17::frames::m17_body_to_symbols(kind, body, out)
 }
 
 #[unsafe(no_mangle)]
 pub extern "C" fn m17_symbols_to_body(symbols: &[f32], out: &mut [u8]) -> u8
-    ensures { (result ≡ lent_said 46 out.old (body_read_of symbols.now).answer) × (out.new ≡ lent_bytes 46 out.old (body_read_of symbols.now).answer (body_read_of symbols.now).bytes) }
+    ensures { (result ≡ lent_said 46 out.old (body_read_of symbols.now)) × (out.new ≡ lent_bytes 46 out.old (body_read_of symbols.now)) }
 {
     m17::frames::m17_symbols_to_body(symbols, out)
 }
 
 #[unsafe(no_mangle)]
 pub extern "C" fn m17_frame_initial_decode(symbols: &[f32], out: &mut [u8]) -> u8
-    ensures { (result ≡ lent_said 46 out.old (initial_of symbols.now).answer) × (out.new ≡ lent_bytes 46 out.old (initial_of symbols.now).answer (initial_of symbols.now).bytes) }
+    ensures { (result ≡ lent_said 46 out.old (initial_of symbols.now)) × (out.new ≡ lent_bytes 46 out.old (initial_of symbols.now)) }
 {
     m17::frames::m17_frame_initial_decode(symbols, out)
 }
 
 #[unsafe(no_mangle)]
 pub extern "C" fn m17_encode_lsf(header: &[u8], out: &mut [f32]) -> u8
-    ensures { (result ≡ lent_said 192 out.old (lsf_symbols_of (lsf_frame header.now)).answer) × (out.new ≡ lent_bytes 192 out.old (lsf_symbols_of (lsf_frame header.now)).answer (lsf_symbols_of (lsf_frame header.now)).symbols) }
+    ensures { (result ≡ lent_said 192 out.old (lsf_symbols_of (lsf_frame header.now))) × (out.new ≡ lent_bytes 192 out.old (lsf_symbols_of (lsf_frame header.now))) }
 {
     m17::frames::m17_encode_lsf(header, out)
 }
@@ -142,7 +143,7 @@ pub extern "C" fn m17_encode_stream(
     stream_data: &[u8],
     out: &mut [f32],
 ) -> u8
-    ensures { (result ≡ lent_said 192 out.old (stream_symbols_of (stream_frame lich_idx lich_part.now frame_number end_of_stream stream_data.now)).answer) × (out.new ≡ lent_bytes 192 out.old (stream_symbols_of (stream_frame lich_idx lich_part.now frame_number end_of_stream stream_data.now)).answer (stream_symbols_of (stream_frame lich_idx lich_part.now frame_number end_of_stream stream_data.now)).symbols) }
+    ensures { (result ≡ lent_said 192 out.old (stream_symbols_of (stream_frame lich_idx lich_part.now frame_number end_of_stream stream_data.now))) × (out.new ≡ lent_bytes 192 out.old (stream_symbols_of (stream_frame lich_idx lich_part.now frame_number end_of_stream stream_data.now))) }
 {
     m17::frames::m17_encode_stream(
         lich_idx,
@@ -161,14 +162,14 @@ pub extern "C" fn m17_encode_packet(
     payload: &[u8],
     out: &mut [f32],
 ) -> u8
-    ensures { (result ≡ lent_said 192 out.old (packet_symbols_of (packet_frame final_frame number payload.now)).answer) × (out.new ≡ lent_bytes 192 out.old (packet_symbols_of (packet_frame final_frame number payload.now)).answer (packet_symbols_of (packet_frame final_frame number payload.now)).symbols) }
+    ensures { (result ≡ lent_said 192 out.old (packet_symbols_of (packet_frame final_frame number payload.now))) × (out.new ≡ lent_bytes 192 out.old (packet_symbols_of (packet_frame final_frame number payload.now))) }
 {
     m17::frames::m17_encode_packet(final_frame, number, payload, out)
 }
 
 #[unsafe(no_mangle)]
 pub extern "C" fn m17_parse_lsf(symbols: &[f32], out: &mut [u8]) -> u8
-    ensures { (result ≡ lent_said 30 out.old (lsf_parsed_of symbols.now).answer) × (out.new ≡ lent_bytes 30 out.old (lsf_parsed_of symbols.now).answer (lsf_parsed_of symbols.now).frame.bytes) }
+    ensures { (result ≡ lent_said 30 out.old (header_bytes (lsf_parsed_of symbols.now))) × (out.new ≡ lent_bytes 30 out.old (header_bytes (lsf_parsed_of symbols.now))) }
 {
     m17::frames::m17_parse_lsf(symbols, out)
 }

@@ -1,18 +1,19 @@
 // The codec for C and Rust, as a static library: each function of m17 under its own name, with its own clauses.
+// kept: numbers for kinds, fields for frames, and functions that differ in a name are the C interface.
 #![tactic(auto)]
 
 ghost use Rattle.std.specs.Prelude.{◌≡◌};
 ghost use Rattle.refusal.specs.Number.{said_of};
-ghost use Rattle.bits.specs.Places.{get_of, set_of, with_bit, number_of_bit};
-ghost use Rattle.bits.specs.Reader.{next_of, step_of};
+ghost use Rattle.bits.specs.Places.{get_of, set_of, with_bit};
+ghost use Rattle.bits.specs.Reader.{next_of, place_after};
 ghost use Rattle.crc.specs.Crc.{crc_from, crc};
 ghost use Rattle.random.specs.Random.{xored};
 ghost use Rattle.interleave.specs.Interleave.{interleaved_of};
-ghost use Rattle.address.specs.Address.{decoded_of as addressReadOf, number_of_heard};
-ghost use Rattle.golay.specs.Golay.{encoded_of, decoded_of, number_of_codeword, number_of_reading};
-ghost use Rattle.m17.specs.Given.{bit_given, read_number, next_given, lent_said, lent_bytes, word_given, data_given, heard_into, heard_given, characters_given};
+ghost use Rattle.address.specs.Address.{decoded_of as addressReadOf};
+ghost use Rattle.golay.specs.Golay.{encoded_of, decoded_of};
+ghost use Rattle.m17.specs.Given.{given, there, given_there, lent_said, lent_bytes};
 ghost use Rattle.m17.specs.Fec.{coded_of, kind_read_of};
-ghost use Rattle.m17.specs.Addresses.{address_kind, reserved_of, address_written_of};
+ghost use Rattle.m17.specs.Addresses.{address_written_of, address_memory, AddressLent};
 
 mod frames;
 mod gathered;
@@ -21,7 +22,7 @@ mod receiving;
 
 #[unsafe(no_mangle)]
 pub extern "C" fn m17_get_bit(bytes: &[u8], place: usize, out: &mut u8) -> u8
-    ensures { (result ≡ number_of_bit (get_of bytes.now place)) × (out.new ≡ bit_given (get_of bytes.now place) out.old) }
+    ensures { (result ≡ said_of (get_of bytes.now place)) × (out.new ≡ given (get_of bytes.now place) out.old) }
 {
     m17::m17_get_bit(bytes, place, out)
 }
@@ -36,7 +37,7 @@ pub extern "C" fn m17_set_bit(bytes: &mut [u8], place: usize, value: u8) -> u8
 // The end is no refusal: `read` is 1 with a bit, 0 at the end.
 #[unsafe(no_mangle)]
 pub extern "C" fn m17_next_bit(bytes: &[u8], place: &mut usize, read: &mut u8, out: &mut u8)
-    ensures { (place.new ≡ (step_of bytes.now place.old).place) × (read.new ≡ read_number (next_of bytes.now place.old)) × (out.new ≡ next_given (next_of bytes.now place.old) out.old) }
+    ensures { (place.new ≡ place_after bytes.now place.old) × (read.new ≡ there (next_of bytes.now place.old)) × (out.new ≡ given_there (next_of bytes.now place.old) out.old) }
 {
     m17::m17_next_bit(bytes, place, read, out)
 }
@@ -64,21 +65,21 @@ pub extern "C" fn m17_random_xor(bytes: &mut [u8])
 
 #[unsafe(no_mangle)]
 pub extern "C" fn m17_interleave(payload: &[u8], out: &mut [u8]) -> u8
-    ensures { (result ≡ lent_said 46 out.old (interleaved_of payload.now).answer) × (out.new ≡ lent_bytes 46 out.old (interleaved_of payload.now).answer (interleaved_of payload.now).bytes) }
+    ensures { (result ≡ lent_said 46 out.old (interleaved_of payload.now)) × (out.new ≡ lent_bytes 46 out.old (interleaved_of payload.now)) }
 {
     m17::m17_interleave(payload, out)
 }
 
 #[unsafe(no_mangle)]
 pub extern "C" fn m17_golay_encode(value: u16, out: &mut u32) -> u8
-    ensures { (result ≡ number_of_codeword (encoded_of value)) × (out.new ≡ word_given (encoded_of value) out.old) }
+    ensures { (result ≡ said_of (encoded_of value)) × (out.new ≡ given (encoded_of value) out.old) }
 {
     m17::m17_golay_encode(value, out)
 }
 
 #[unsafe(no_mangle)]
 pub extern "C" fn m17_golay_decode(word: u32, out: &mut u16) -> u8
-    ensures { (result ≡ number_of_reading (decoded_of word)) × (out.new ≡ data_given (decoded_of word) out.old) }
+    ensures { (result ≡ said_of (decoded_of word)) × (out.new ≡ given (decoded_of word) out.old) }
 {
     m17::m17_golay_decode(word, out)
 }
@@ -90,28 +91,28 @@ pub extern "C" fn m17_decode_address(
     value: &mut u64,
     callsign: &mut [u8],
 ) -> u8
-    ensures { (result ≡ number_of_heard (heard_into callsign.old (addressReadOf encoded.now).answer)) × (kind.new ≡ heard_given address_kind (heard_into callsign.old (addressReadOf encoded.now).answer) kind.old) × (value.new ≡ heard_given reserved_of (heard_into callsign.old (addressReadOf encoded.now).answer) value.old) × (callsign.new ≡ characters_given (heard_into callsign.old (addressReadOf encoded.now).answer) (addressReadOf encoded.now).callsign callsign.old) }
+    ensures { AddressLent (addressReadOf encoded.now) (address_memory kind.old value.old callsign.old) result (address_memory kind.new value.new callsign.new) }
 {
     m17::m17_decode_address(encoded, kind, value, callsign)
 }
 
 #[unsafe(no_mangle)]
 pub extern "C" fn m17_encode_address(kind: u8, value: u64, callsign: &[u8], out: &mut [u8]) -> u8
-    ensures { (result ≡ lent_said 6 out.old (address_written_of kind value callsign.now).answer) × (out.new ≡ lent_bytes 6 out.old (address_written_of kind value callsign.now).answer (address_written_of kind value callsign.now).bytes) }
+    ensures { (result ≡ lent_said 6 out.old (address_written_of kind value callsign.now)) × (out.new ≡ lent_bytes 6 out.old (address_written_of kind value callsign.now)) }
 {
     m17::m17_encode_address(kind, value, callsign, out)
 }
 
 #[unsafe(no_mangle)]
 pub extern "C" fn m17_fec_encode(kind: u8, plain: &[u8], out: &mut [u8]) -> u8
-    ensures { (result ≡ lent_said 46 out.old (coded_of kind plain.now).answer) × (out.new ≡ lent_bytes 46 out.old (coded_of kind plain.now).answer (coded_of kind plain.now).bytes) }
+    ensures { (result ≡ lent_said 46 out.old (coded_of kind plain.now)) × (out.new ≡ lent_bytes 46 out.old (coded_of kind plain.now)) }
 {
     m17::m17_fec_encode(kind, plain, out)
 }
 
 #[unsafe(no_mangle)]
 pub extern "C" fn m17_fec_decode(kind: u8, received: &[u8], out: &mut [u8]) -> u8
-    ensures { (result ≡ lent_said 30 out.old (kind_read_of kind received.now).answer) × (out.new ≡ lent_bytes 30 out.old (kind_read_of kind received.now).answer (kind_read_of kind received.now).bytes) }
+    ensures { (result ≡ lent_said 30 out.old (kind_read_of kind received.now)) × (out.new ≡ lent_bytes 30 out.old (kind_read_of kind received.now)) }
 {
     m17::m17_fec_decode(kind, received, out)
 }

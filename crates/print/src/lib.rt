@@ -1,51 +1,34 @@
-// What the programs share: bytes put into a buffer one after another, and text, numbers and bytes on a writer, which is standard output.
-// Nothing can be promised of what goes out.
+// What the programs share: bytes put into a buffer one after another, and bytes in hexadecimal digits.
 #![tactic(auto)]
 
 ghost use Rattle.std.specs.Prelude.{◌+◌, ◌≡◌};
 ghost use Rattle.print.specs.Appended.{room_for, appended};
 
-use std::io;
-use std::io::Write;
+use std::convert::AsSlice;
+use std::fmt;
 
 // `s` is put into `to` from place `at` on. What finds no room is left out. Answers the place behind it.
+// kept: no program calls it now, but its promise and its wrong programs stand.
 pub fn append(to: &mut [u8], at: usize, s: &[u8]) -> usize
     ensures { (result ≡ at + room_for to.old at s.now) × (to.new ≡ appended to.old at s.now) }
 {
-    let mut n = 0;
-    while n < s.len() {
-        if to.len() - n <= at {
-            return at + n;
-        }
-        to[at + n] = s[n];
-        n += 1;
+    let n = s.len().min(to.len().saturating_sub(at));
+    if n == 0 {
+        return at;
     }
+    to[at..at + n].copy_from_slice(&s[..n]);
     at + n
 }
 
-pub fn text<W: Write>(out: &mut W, s: &[u8]) -> io::Result<()> {
-    out.write_all(s)
-}
+// Two hexadecimal digits for each byte.
+#[derive(Clone, Copy)]
+pub struct Hex<B>(pub B);
 
-pub fn decimal<W: Write>(out: &mut W, n: u64) -> io::Result<()> {
-    write!(out, "{n}")
-}
-
-// With zeros in front, up to so many digits, and at most to 16.
-pub fn hex<W: Write>(out: &mut W, n: u64, width: usize) -> io::Result<()> {
-    let width = width.min(16);
-    write!(out, "{n:0width$x}")
-}
-
-fn wide(x: u8) -> u64 {
-    x as u64
-}
-
-// A space, and two digits for each byte.
-pub fn bytes<W: Write>(out: &mut W, s: &[u8]) -> io::Result<()> {
-    text(out, b" ")?;
-    for i in 0..s.len() {
-        hex(out, wide(s[i]), 2)?;
+impl<B: AsSlice<u8>> fmt::Display for Hex<B> {
+    fn fmt<W: fmt::Write>(&self, f: &mut fmt::Formatter<W>) -> fmt::Result {
+        for byte in self.0.as_slice() {
+            write!(f, "{byte:02x}")?;
+        }
+        Ok(())
     }
-    Ok(())
 }

@@ -5,7 +5,7 @@ use mathlib.Core.List.{List}
 use Prim.Native.Nat.{ℕ}
 use native.Mathlib.Omega.{arith}
 use lib.ListN.{replicate}
-use Rattle.refusal.specs.declared.Verdict.TheVariants.{Done}
+use Rattle.std.proofs.Common.{Ok}
 use Rattle.laws.specs.Value.{value_of}
 use Rattle.crc.specs.Crc.{crc}
 use Rattle.address.specs.declared.Address.{Address}
@@ -31,12 +31,12 @@ pub record Fields (m : Mode) (d : DataType) (source destination : ℕ) (s : List
   pub meta : field meta_bytes s ≡ 0
   pub valid : crc s ≡ 0
 
-pub new_fields : (m : Mode) (d : DataType) (a : Address) (s : List ℕ) (b : Address) (t : List ℕ) → (encoded_of a s).answer ≡ Done
-    → (encoded_of b t).answer ≡ Done → Fields m d (address_value a s) (address_value b t) (new_bytes m d a s b t)
+pub new_fields : (m : Mode) (d : DataType) (a : Address) (s : List ℕ) (b : Address) (t x y : List ℕ) → encoded_of a s ≡ Ok x → encoded_of b t ≡ Ok y
+    → Fields m d (address_value a s) (address_value b t) (new_bytes m d a s b t)
 unfolding new_bytes field fields_of bits_at value_of
-new_fields m d a s b t ga gb =
-    let one = address_sets (replicate 30 0) zeros 6 (omega arith) a s ga in
-    let two = address_sets _ one.thirty 0 (omega arith) b t gb in
+new_fields m d a s b t x y ga gb =
+    let one = address_sets (replicate 30 0) zeros 6 (omega arith) a s x ga in
+    let two = address_sets _ one.thirty 0 (omega arith) b t y gb in
     let three = mode_sets _ two.thirty m in
     let four = data_sets _ three.thirty d in
     let five = encryption_sets _ four.thirty None in

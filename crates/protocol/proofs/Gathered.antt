@@ -6,16 +6,16 @@ use Prim.Native.Nat.{ℕ, zero, suc, ◌+◌, ◌*◌, ◌<◌, ◌≤◌}
 use native.Mathlib.Omega.{arith}
 use native.Mathlib.Decide.{ℕ_discrete}
 use lib.Dec.{eqb, leb}
-use lib.ListN.{length, get_or, set, take, drop, replicate, length-set}
+use lib.ListN.{length, get_or, set, take, drop, length-set}
 use lib.Seq.{get_or-set_same, get_or-set_other, drop-append-add, take-append-add}
 use borrow.Author.Tests.{eqb-true, eq-eqb, ne_eqb, leb-true, le-leb}
 use Rattle.refusal.specs.declared.Refusal.TheVariants.{WrongLength, OutOfRange}
-use Rattle.refusal.specs.declared.Verdict.TheVariants.{Done, Refused}
+use Rattle.refusal.specs.declared.Refusal.{Refusal}
+use Rattle.std.specs.Prelude.{Some, None, Ok, Err, is_ok, ⊤}
 use Rattle.laws.specs.Tabled.{values_from, tabled}
 use Rattle.laws.proofs.Values.{length-tabled, tabled_at, tabled_only}
 use Rattle.protocol.specs.declared.LichCollection.{LichCollection}
-use Rattle.protocol.specs.declared.Assembly.TheVariants.{Header, NotYet}
-use Rattle.protocol.specs.Lich.{flags_set, with_part, collected, set_of, assembled_of}
+use Rattle.protocol.specs.Lich.{flags_set, with_part, after_set, assembled_of}
 use Rattle.protocol.specs.Sequence.{Segment, after_segments, sets_at, was_set, last, joined}
 
 -- ---- parts of five bytes, one after the other, and one of them replaced
@@ -129,11 +129,11 @@ module _ (x : Segment) (h : List Segment) where
         (sym (flat-set x.counter x.part (fives h) inside) ∙ ap flat new_parts) new_flags
 
   -- a step of the code from what is held leads to what is held
-  step : (set_of x.counter x.part (holding h)).collection ≡ holding (x ∷ h)
+  step : after_set x.counter x.part (holding h) ≡ holding (x ∷ h)
   step = go (eqb (length x.part) 5) (leb x.counter 5) refl refl
     where
       go : (b t : Bool) → eqb (length x.part) 5 ≡ b → leb x.counter 5 ≡ t
-          → (collected (cond b (cond t Done (Refused OutOfRange)) (Refused WrongLength)) (holding h) (with_part x.counter x.part (holding h))).collection ≡ holding (x ∷ h)
+          → cond (is_ok {T = ⊤} {E = Refusal} (cond b (cond t (Ok tt) (Err OutOfRange)) (Err WrongLength))) (with_part x.counter x.part (holding h)) (holding h) ≡ holding (x ∷ h)
       go true true e f = changed (eqb-true (length x.part) 5 e) (leb-true x.counter 5 f)
       go true false e f = sym (unchanged (λ k. rw (e, f)))
       go false t e f = sym (unchanged (λ k. rw e))
@@ -143,7 +143,7 @@ module _ (x : Segment) (h : List Segment) where
 after_holds : (h : List Segment) → after_segments h ≡ holding h
 unfolding after_segments holding parts flat last was_set values_from
 after_holds [] = refl
-after_holds (x ∷ h) = ap (λ (l : LichCollection). (set_of x.counter x.part l).collection) (after_holds h) ∙ step x h
+after_holds (x ∷ h) = ap (after_set x.counter x.part) (after_holds h) ∙ step x h
 
 flat-joined : (h : List Segment) → flat (parts h) ≡ joined h
 unfolding flat parts values_from
@@ -182,13 +182,13 @@ module _ (h : List Segment) where
   bytes = ap (λ (l : LichCollection). l.bytes) (after_holds h) ∙ flat-joined h
 
   -- a part was set at each counter: the last ones, joined
-  pub assembles : ((k : ℕ) → k < 6 → was_set h k ≡ true) → assembled_of (after_segments h) ≡ record { answer = Header; bytes = joined h }
+  pub assembles : ((k : ℕ) → k < 6 → was_set h k ≡ true) → assembled_of (after_segments h) ≡ Some (joined h)
   assembles all =
       let n : flags_set (after_segments h).set ≡ 6 = flags_all (after_segments h).set (λ k b. let c : k < 6 = omega (arith, six) in flag k c ∙ all k c) ∙ six in
-      rw (eq-eqb (flags_set (after_segments h).set) 6 n) (ap (λ (b : List ℕ). record { answer = Header; bytes = b }) bytes)
+      rw (eq-eqb (flags_set (after_segments h).set) 6 n) (ap Some bytes)
 
   -- at one of them none was set: not yet
-  pub not_yet : (k : ℕ) → k < 6 → was_set h k ≡ false → assembled_of (after_segments h) ≡ record { answer = NotYet; bytes = replicate 30 0 }
+  pub not_yet : (k : ℕ) → k < 6 → was_set h k ≡ false → assembled_of (after_segments h) ≡ None
   not_yet k b e =
       let n : flags_set (after_segments h).set < 6 = omega (arith, six, flags_some (after_segments h).set k (omega (arith, six)) (flag k b ∙ e)) in
       rw (ne_eqb (flags_set (after_segments h).set) 6 (λ q. omega arith))

@@ -1,9 +1,7 @@
 -- What is known of the bytes of an array that a function is given by value. Assumes nothing.
-use mathlib.Core.Path.{◌≡◌, sym, ◌∙◌}
-use mathlib.Core.List.{List, [], ◌∷◌, map}
+use mathlib.Core.List.{List, [], ◌∷◌}
 use Prim.Native.Nat.{ℕ, zero, suc}
 use lib.Dec.{lit<}
-use lib.ListN.{length, length-map}
 use mir.Syntax.{w8}
 use mir.Val.{Val}
 use denote.Shadow.{shadow}
@@ -21,7 +19,3 @@ each_byte (x ∷ s) (u ∷ us) h (suc k) = each_byte s us h.1 k
 
 pub held_thirty : (s : List ℕ) (vs : List Val) → Is (Array (UInt w8) 30) s vs → Thirty s
 held_thirty s vs h = record { long = h.1.0.1; bytes = each_byte s h.0 h.1.1 }
-
--- a field of a struct is held element by element
-pub held_long : {n : ℕ} (s : List ℕ) → length (map (λ (v : ℕ). v) s) ≡ n → length s ≡ n
-held_long s e = sym (length-map s (λ v. v)) ∙ e

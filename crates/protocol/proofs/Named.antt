@@ -9,14 +9,14 @@ use lib.Dec.{T, eqb, leb, lit<}
 use lib.ListN.{length, get_or, take, drop, length-drop}
 use lib.Seq.{length-take-le}
 use borrow.Author.Tests.{eqb-true, leb-true}
-use Rattle.refusal.specs.declared.Verdict.TheVariants.{Done}
+use Rattle.std.proofs.Common.{Ok}
 use Rattle.laws.specs.Value.{value_of, in_bytes}
 use Rattle.laws.proofs.Every.{every, every_at}
 use Rattle.laws.proofs.Number.{bytes_of_value}
 use Rattle.laws.proofs.Bytes.{bytes_take, bytes_drop}
 use Rattle.address.specs.declared.Address.{Address}
 use Rattle.address.specs.Address.{address_value, encoded_of, decoded_of}
-use Rattle.address.proofs.RoundTrip.{read_back, written_then_read}
+use Rattle.address.proofs.RoundTrip.{read_back, accepted_bytes, written_then_read}
 use Rattle.protocol.specs.declared.Mode.{Mode}
 use Rattle.protocol.specs.declared.Mode.TheVariants.{Packet, Stream}
 use Rattle.protocol.specs.declared.DataType.{DataType}
@@ -27,7 +27,7 @@ use Rattle.protocol.specs.Numbers.{mode_number, mode_of, data_number, data_of, e
 use Rattle.protocol.specs.Fields.{Place, bytes_from, destination_bytes, source_bytes, mode_bits, data_bits, encryption_bits, channel_bits, meta_bytes, field, set_field}
 use Rattle.protocol.proofs.Bits.{Apart}
 use Rattle.protocol.proofs.Whole.{Thirty, field_bytes}
-use Rattle.protocol.proofs.Written.{accepted_small, accepted_bytes}
+use Rattle.protocol.proofs.Written.{accepted_small}
 use Rattle.protocol.proofs.Setters.{Inside, Sets, sets, set_swap}
 
 -- ---- the seven fields
@@ -136,13 +136,13 @@ bytes_read s thirty a n h =
     ∙ bytes_of_value (take n (drop a s)) (bytes_take n (drop a s) (bytes_drop a s thirty.bytes)))
 
 -- an address that is accepted, set from byte k on
-module _ (s : List ℕ) (thirty : Thirty s) (k : ℕ) (within : k + 6 ≤ 28) (a : Address) (cs : List ℕ) (good : (encoded_of a cs).answer ≡ Done) where
+module _ (s : List ℕ) (thirty : Thirty s) (k : ℕ) (within : k + 6 ≤ 28) (a : Address) (cs b : List ℕ) (good : encoded_of a cs ≡ Ok b) where
   pub address_sets : Sets (bytes_from k 6) (address_value a cs) s (set_field (bytes_from k 6) (address_value a cs) s)
-  address_sets = sets (bytes_from k 6) (omega arith) (address_value a cs) (accepted_small a cs good) s thirty
+  address_sets = sets (bytes_from k 6) (omega arith) (address_value a cs) (accepted_small a cs b good) s thirty
 
-  pub address_back : decoded_of (take 6 (drop k (set_field (bytes_from k 6) (address_value a cs) s))) ≡ read_back a cs
+  pub address_back : decoded_of (take 6 (drop k (set_field (bytes_from k 6) (address_value a cs) s))) ≡ Ok (read_back a cs)
   address_back =
       ap decoded_of
       (bytes_read (set_field (bytes_from k 6) (address_value a cs) s) address_sets.thirty k 6 within ∙ ap (in_bytes 6) address_sets.reads_back
-      ∙ sym (accepted_bytes a cs good))
-      ∙ written_then_read a cs good
+      ∙ sym (accepted_bytes a cs b good))
+      ∙ written_then_read a cs b good

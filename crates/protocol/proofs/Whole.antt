@@ -1,11 +1,11 @@
 -- A header's thirty bytes and the number of its fields, each from the other. Assumes nothing.
 use mathlib.Core.Path.{◌≡◌, refl, sym, ap, ap₂, ◌∙◌, subst}
-use mathlib.Core.List.{List, [], ◌∷◌, ◌++◌, append-nil}
+use mathlib.Core.List.{List, [], ◌∷◌, ◌++◌, append-nil, append_assoc}
 use Prim.Native.Nat.{ℕ, ◌+◌, ◌-◌, ◌*◌, ◌/◌, ◌%◌, ◌^◌, ◌<◌, ◌≤◌}
 use native.Mathlib.Nat.{div-one}
 use native.Mathlib.Omega.{arith}
-use lib.ListN.{length, get_or, replicate, take, drop, set, length-append, length-drop, drop_of_length-le}
-use lib.Seq.{sets-eq, take_at, take-add, take-append-add, length-take-le, drop-cons}
+use lib.ListN.{length, get_or, replicate, take, drop, length-append, length-drop, drop_of_length-le}
+use lib.Seq.{drop-drop, take_at, take-add, take-append-add, length-take-le, drop-cons}
 use Rattle.laws.specs.Value.{value_of, in_bytes, Bytes}
 use Rattle.laws.proofs.Number.{value_lt, length_in_bytes, bytes_of_value, value_of_bytes, value_append, bits_of_bytes}
 use Rattle.crc.specs.Crc.{crc}
@@ -41,14 +41,12 @@ module _ (s : List ℕ) (thirty : Thirty s) where
   fields_front = ap (λ (n : ℕ). in_bytes n (value_of (take 28 s))) (sym front_long) ∙ bytes_of_value (take 28 s) (bytes_take 28 s thirty.bytes)
 
   -- the last two bytes stored
-  pub renew_bytes : (c : ℕ) → c ≡ crc (take 28 s) → set (set s 28 (c / 256)) 29 (c % 256) ≡ renewed (fields_of s)
+  pub renew_bytes : (c : ℕ) (new : List ℕ) → c ≡ crc (take 28 s) → new ≡ in_bytes 2 c → take 28 s ++ (new ++ drop 2 (drop 28 s)) ≡ renewed (fields_of s)
   unfolding renewed
-  renew_bytes c e =
-      let le : length s ≤ 30 = omega (arith, thirty.long) in
-      let none : drop 30 s ≡ [] = drop_of_length-le s le in
-      sets-eq (c / 256 ∷ c % 256 ∷ []) s 28 (omega (arith, thirty.long))
-      ∙ ap (λ (l : List ℕ). take 28 s ++ (c / 256 ∷ c % 256 ∷ []) ++ l) none ∙ append-nil (take 28 s ++ (c / 256 ∷ c % 256 ∷ []))
-      ∙ ap (λ (x : ℕ). take 28 s ++ two x) e ∙ ap (λ (l : List ℕ). take 28 s ++ l) (sym (two_bytes (crc (take 28 s))))
+  renew_bytes c new e is =
+      let two : length (drop 28 s) ≤ 2 = omega (arith, length-drop 28 s, thirty.long) in
+      ap (λ (l : List ℕ). take 28 s ++ (new ++ l)) (drop_of_length-le (drop 28 s) two)
+      ∙ ap (λ (l : List ℕ). take 28 s ++ l) (append-nil new ∙ is ∙ ap (in_bytes 2) e)
       ∙ sym (ap (λ (l : List ℕ). l ++ in_bytes 2 (crc l)) fields_front)
 
   -- ---- the n bytes from byte a on
@@ -108,22 +106,21 @@ module _ (s : List ℕ) (thirty : Thirty s) where
         ∙ sym (put_parts (8 * (28 - (a + n))) (8 * n) (value_of (take a s)) (value_of (take n (drop a s))) (value_of rest) part_lt rest_lt (value_of m))
         ∙ ap (with_bits (bytes_from a n) (value_of m)) (sym (ap value_of in_parts ∙ whole (take n (drop a s)) part_long))
 
+  -- as a write to a part of an array leaves them
+  pub part_put : (a n k : ℕ) → a + n ≤ 28 → (m : List ℕ) → length m ≡ n → k ≡ n
+      → fields_of (take a s ++ (m ++ drop k (drop a s))) ≡ with_bits (bytes_from a n) (value_of m) (fields_of s)
+  part_put a n k within m e q =
+      ap (λ (j : ℕ). fields_of (take a s ++ (m ++ drop j (drop a s)))) q
+      ∙ ap (λ (l : List ℕ). fields_of (take a s ++ (m ++ l))) (drop-drop n a s)
+      ∙ ap fields_of (sym (append_assoc (take a s) m (drop (a + n) s))) ∙ bytes_put a n within m e
+
   -- ---- the type bytes
 
-  pub type_value : get_or s 12 0 * 256 + get_or s 13 0 ≡ field type_bytes s
-  unfolding value_of
+  pub type_value : value_of (get_or s 12 0 ∷ get_or s 13 0 ∷ []) ≡ field type_bytes s
   type_value =
       let e : drop 12 s ≡ get_or s 12 0 ∷ get_or s 13 0 ∷ drop 14 s =
       drop-cons s 12 0 (omega (arith, thirty.long)) ∙ ap (λ (l : List ℕ). get_or s 12 0 ∷ l) (drop-cons s 13 0 (omega (arith, thirty.long))) in
-      let v : get_or s 12 0 * 256 + get_or s 13 0 ≡ value_of (get_or s 12 0 ∷ get_or s 13 0 ∷ []) = omega arith in
-      v ∙ sym (field_bytes 12 2 (omega arith) ∙ ap (λ (l : List ℕ). value_of (take 2 l)) e)
-
-  pub type_put : (v : ℕ) → fields_of (set (set s 12 (v / 256)) 13 (v % 256)) ≡ with_bits type_bytes v (fields_of s)
-  unfolding value_of
-  type_put v =
-      let e : value_of (v / 256 ∷ v % 256 ∷ []) ≡ v = omega arith in
-      ap fields_of (sets-eq (v / 256 ∷ v % 256 ∷ []) s 12 (omega (arith, thirty.long)))
-      ∙ bytes_put 12 2 (omega arith) (v / 256 ∷ v % 256 ∷ []) refl ∙ ap (λ (x : ℕ). with_bits type_bytes x (fields_of s)) e
+      sym (field_bytes 12 2 (omega arith) ∙ ap (λ (l : List ℕ). value_of (take 2 l)) e)
 
 -- ---- from the number to the bytes
 

@@ -1,7 +1,7 @@
 -- A sequence of parts given to a collection, and what was set in it. The latest part stands first. Assumes nothing.
 use Rattle.std.specs.Prelude.{Bool, true, false, cond, ◌&&◌, List, [], ◌∷◌, ◌++◌, ℕ, eqb, leb, length, replicate}
 use Rattle.protocol.specs.declared.LichCollection.{LichCollection}
-use Rattle.protocol.specs.Lich.{empty, set_of}
+use Rattle.protocol.specs.Lich.{empty, after_set}
 
 -- what `set_segment` is called with
 pub record Segment : Type 0 where
@@ -11,7 +11,7 @@ pub record Segment : Type 0 where
 -- the collection after the sequence, from a new one on
 unfoldable pub after_segments : List Segment → LichCollection
 after_segments [] = empty
-after_segments (x ∷ h) = (set_of x.counter x.part (after_segments h)).collection
+after_segments (x ∷ h) = after_set x.counter x.part (after_segments h)
 
 -- a part that is not refused, set at counter k
 abbrev pub sets_at : ℕ → Segment → Bool

@@ -1,241 +1,200 @@
 // Readings on the bench, and published vectors, from the compiled code. What it writes is held to the file stdout.
 #![tactic(auto)]
 
-use address::{Address, Heard};
-use bits::Bit;
-use encode::Body;
-use golay::{Codeword, Reading};
-use print::{bytes, text};
+use address::{Address, Reading, Station};
+use print::Hex;
 use protocol::PacketFrameCounter;
-use refusal::Verdict;
-use std::io;
+use refusal::Refusal;
+use std::fmt::Display;
 use std::io::{BufWriter, Write};
+use std::{fmt, io};
 
-fn wide(x: u8) -> u64 {
-    x as u64
+// An answer: what it gives, or the number of its refusal.
+#[derive(Drop)]
+struct Answered<T>(Result<T, Refusal>);
+
+impl<T: Display> Display for Answered<T> {
+    fn fmt<W: fmt::Write>(&self, f: &mut fmt::Formatter<W>) -> fmt::Result {
+        match &self.0 {
+            Ok(given) => write!(f, "{given}"),
+            Err(why) => {
+                let number = u8::from(*why);
+                write!(f, "refused {number}")
+            }
+        }
+    }
 }
 
-fn number<W: Write>(out: &mut W, n: u64, width: usize) -> io::Result<()> {
-    text(out, b" ")?;
-    print::hex(out, n, width)
+// A number in so many hexadecimal digits.
+#[derive(Clone, Copy)]
+struct Digits<const WIDTH: usize>(u32);
+
+impl<const WIDTH: usize> Display for Digits<WIDTH> {
+    fn fmt<W: fmt::Write>(&self, f: &mut fmt::Formatter<W>) -> fmt::Result {
+        let number = self.0;
+        write!(f, "{number:0WIDTH$x}")
+    }
 }
 
-fn refused<W: Write>(out: &mut W, n: u8) -> io::Result<()> {
-    text(out, b" refused ")?;
-    print::decimal(out, wide(n))
-}
+// An address that was read.
+#[derive(Clone, Copy)]
+struct Heard(Reading);
 
-fn end<W: Write>(out: &mut W) -> io::Result<()> {
-    text(out, b"\n")
+impl Display for Heard {
+    fn fmt<W: fmt::Write>(&self, f: &mut fmt::Formatter<W>) -> fmt::Result {
+        let read = self.0;
+        match read.address {
+            Address::Invalid => write!(f, "invalid"),
+            Address::Callsign => {
+                write!(f, "callsign [")?;
+                for character in &read.callsign {
+                    f.write_char(char::from(*character))?;
+                }
+                write!(f, "]")
+            }
+            Address::Reserved(value) => write!(f, "reserved {value:012x}"),
+            Address::Broadcast => write!(f, "broadcast"),
+        }
+    }
 }
 
 // ---- crc
 
-fn crc_of<W: Write>(out: &mut W, label: &[u8], s: &[u8]) -> io::Result<()> {
-    text(out, label)?;
-    number(out, crc::m17_crc(s) as u64, 4)?;
-    end(out)
+fn crc_of<W: Write>(out: &mut W, label: &str, s: &[u8]) -> io::Result<()> {
+    let sum = crc::m17_crc(s);
+    writeln!(out, "crc of {label}: {sum:04x}")
 }
 
 fn crc_of_all_bytes<W: Write>(out: &mut W) -> io::Result<()> {
     let mut all = [0u8; 256];
-    for i in 0..256usize {
-        all[i] = (i % 256) as u8;
+    for (byte, n) in all.iter_mut().zip(0..=255u8) {
+        *byte = n;
     }
-    crc_of(out, b"crc of the bytes 0 to 255:", &all)
+    crc_of(out, "the bytes 0 to 255", &all)
 }
 
 // ---- random
 
-fn xor_twice<W: Write>(out: &mut W, s: &mut [u8]) -> io::Result<()> {
-    text(out, b"xor of zeros:")?;
-    random::random_xor(s);
-    bytes(out, s)?;
-    random::random_xor(s);
-    bytes(out, s)?;
-    end(out)
-}
-
+// So many zeros, at most 368, xored once and once more.
 fn xor_of<W: Write>(out: &mut W, n: usize) -> io::Result<()> {
-    let mut s = [0u8; 368];
-    if n <= 368 {
-        return xor_twice(out, &mut s[..n]);
+    let mut zeros = [0u8; 368];
+    let s = &mut zeros[..n.min(368)];
+    write!(out, "xor of zeros:")?;
+    for _ in 0..2 {
+        random::random_xor(s);
+        write!(out, " {}", Hex(&*s))?;
     }
-    Ok(())
+    writeln!(out)
 }
 
 // ---- interleave
 
 fn interleave_of<W: Write>(out: &mut W, s: &[u8]) -> io::Result<()> {
-    text(out, b"interleave:")?;
-    let r = interleave::interleave(s);
-    let answer = r.answer;
-    match answer {
-        Verdict::Done => {
-            let placed = r.bytes;
-            bytes(out, &placed)?;
-        }
-        Verdict::Refused(why) => refused(out, refusal::number(why))?,
-    }
-    end(out)
+    let placed = interleave::interleave(s);
+    writeln!(out, "interleave: {}", Answered(placed.map(Hex)))
 }
 
 fn interleave_unit<W: Write>(out: &mut W, place: usize) -> io::Result<()> {
     let mut s = [0u8; 46];
-    bits::set_bit(&mut s, place, 1);
+    let _ = bits::set_bit(&mut s, place, 1);
     interleave_of(out, &s)
 }
 
 // ---- bits
 
 fn bit_of<W: Write>(out: &mut W, s: &[u8], place: usize) -> io::Result<()> {
-    text(out, b"bit:")?;
-    match bits::get_bit(s, place) {
-        Bit::Value(b) => number(out, wide(b), 1)?,
-        Bit::Refused(why) => refused(out, refusal::number(why))?,
-    }
-    end(out)
+    writeln!(out, "bit: {}", Answered(bits::get_bit(s, place)))
 }
 
 fn bit_set<W: Write>(out: &mut W, place: usize, value: u8) -> io::Result<()> {
     let mut s = [0xA5u8, 0x5A];
-    text(out, b"set:")?;
-    match bits::set_bit(&mut s, place, value) {
-        Verdict::Done => {}
-        Verdict::Refused(why) => refused(out, refusal::number(why))?,
+    write!(out, "set: ")?;
+    if let Err(why) = bits::set_bit(&mut s, place, value) {
+        write!(out, "refused {} ", u8::from(why))?;
     }
-    bytes(out, &s)?;
-    end(out)
+    writeln!(out, "{}", Hex(s))
 }
 
 // ---- address
 
 fn address_read<W: Write>(out: &mut W, s: &[u8]) -> io::Result<()> {
-    text(out, b"address:")?;
-    let r = address::decode_address(s);
-    let answer = r.answer;
-    match answer {
-        Heard::Read(a) => match a {
-            Address::Invalid => text(out, b" invalid")?,
-            Address::Callsign => {
-                let nine = r.callsign;
-                text(out, b" callsign [")?;
-                text(out, &nine)?;
-                text(out, b"]")?;
-            }
-            Address::Reserved(value) => {
-                text(out, b" reserved")?;
-                number(out, value, 12)?;
-            }
-            Address::Broadcast => text(out, b" broadcast")?,
-        },
-        Heard::Refused(why) => refused(out, refusal::number(why))?,
-    }
-    end(out)
+    let read = address::decode_address(s);
+    writeln!(out, "address: {}", Answered(read.map(Heard)))
 }
 
 fn address_written<W: Write>(
     out: &mut W,
-    label: &[u8],
-    a: Address,
+    label: &str,
+    address: Address,
     callsign: &[u8],
 ) -> io::Result<()> {
-    text(out, label)?;
-    let w = address::encode_address(a, callsign);
-    let answer = w.answer;
-    match answer {
-        Verdict::Done => {
-            let six = w.bytes;
-            bytes(out, &six)?;
-        }
-        Verdict::Refused(why) => refused(out, refusal::number(why))?,
-    }
-    end(out)
+    let six = address::encode_address(Station { address, callsign });
+    writeln!(out, "write {label}: {}", Answered(six.map(Hex)))
 }
 
 // ---- golay
 
 fn golay_of<W: Write>(out: &mut W, value: u16) -> io::Result<()> {
-    text(out, b"golay of")?;
-    number(out, value as u64, 3)?;
-    match golay::encode(value) {
-        Codeword::Word(w) => number(out, w as u64, 6)?,
-        Codeword::Refused(why) => refused(out, refusal::number(why))?,
-    }
-    end(out)
+    let word = golay::encode(value).map(Digits::<6>);
+    writeln!(out, "golay of {value:03x} {}", Answered(word))
 }
 
 fn golay_read<W: Write>(out: &mut W, word: u32) -> io::Result<()> {
-    text(out, b"golay read")?;
-    number(out, word as u64, 6)?;
-    match golay::decode(word) {
-        Reading::Data(d) => number(out, d as u64, 3)?,
-        Reading::Refused(why) => refused(out, refusal::number(why))?,
-    }
-    end(out)
+    let value = golay::decode(word).map(|value| Digits::<3>(u32::from(value)));
+    writeln!(out, "golay read {word:06x} {}", Answered(value))
 }
 
 // ---- bodies
 
-fn body<W: Write>(out: &mut W, label: &[u8], b: Body) -> io::Result<()> {
-    text(out, label)?;
-    let answer = b.answer;
-    match answer {
-        Verdict::Done => {
-            let written = b.bytes;
-            bytes(out, &written)?;
-        }
-        Verdict::Refused(why) => refused(out, refusal::number(why))?,
-    }
-    end(out)
+fn body<W: Write>(
+    out: &mut W,
+    label: impl Display + Drop,
+    body: Result<[u8; 46], Refusal>,
+) -> io::Result<()> {
+    writeln!(out, "{label} zeros: {}", Answered(body.map(Hex)))
 }
 
+fn packet_body<W: Write>(
+    out: &mut W,
+    label: impl Display + Drop,
+    counter: PacketFrameCounter,
+) -> io::Result<()> {
+    body(out, label, encode::write_packet(counter, &[0u8; 25]))
+}
+
+// kept: this and `final_frame` make another case each: one over both would take it and its words.
 fn packet_frame<W: Write>(out: &mut W, index: usize) -> io::Result<()> {
     let counter = PacketFrameCounter::Frame { index };
-    text(out, b"packet frame ")?;
-    print::decimal(out, index as u64)?;
-    body(
-        out,
-        b" of zeros:",
-        encode::write_packet(counter, &[0u8; 25]),
-    )
+    packet_body(out, format_args!("packet frame {index} of"), counter)
 }
 
 fn final_frame<W: Write>(out: &mut W, payload_len: usize) -> io::Result<()> {
     let counter = PacketFrameCounter::FinalFrame { payload_len };
-    text(out, b"final frame of ")?;
-    print::decimal(out, payload_len as u64)?;
-    body(out, b" zeros:", encode::write_packet(counter, &[0u8; 25]))
+    packet_body(out, format_args!("final frame of {payload_len}"), counter)
 }
 
 fn main(rt: HostRuntime) -> io::Result<()> {
     let mut buffer = BufWriter::new(rt.alloc(), io::writer(&rt))?;
     let out = &mut buffer;
-    crc_of(out, b"crc of nothing:", b"")?;
-    crc_of(out, b"crc of A:", b"A")?;
-    crc_of(out, b"crc of 123456789:", b"123456789")?;
+    crc_of(out, "nothing", b"")?;
+    crc_of(out, "A", b"A")?;
+    crc_of(out, "123456789", b"123456789")?;
     crc_of_all_bytes(out)?;
-    xor_of(out, 0)?;
-    xor_of(out, 1)?;
-    xor_of(out, 45)?;
-    xor_of(out, 46)?;
-    xor_of(out, 47)?;
-    xor_of(out, 368)?;
-    interleave_unit(out, 0)?;
-    interleave_unit(out, 1)?;
-    interleave_unit(out, 137)?;
-    interleave_unit(out, 367)?;
+    for n in [0, 1, 45, 46, 47, 368] {
+        xor_of(out, n)?;
+    }
+    for place in [0, 1, 137, 367] {
+        interleave_unit(out, place)?;
+    }
     interleave_of(out, &[0u8; 45])?;
     interleave_of(out, &[0u8; 47])?;
-    bit_of(out, &[0x80, 0x01], 0)?;
-    bit_of(out, &[0x80, 0x01], 1)?;
-    bit_of(out, &[0x80, 0x01], 15)?;
-    bit_of(out, &[0x80, 0x01], 16)?;
+    for place in [0, 1, 15, 16] {
+        bit_of(out, &[0x80, 0x01], place)?;
+    }
     bit_of(out, b"", 0)?;
-    bit_set(out, 0, 0)?;
-    bit_set(out, 1, 1)?;
-    bit_set(out, 15, 255)?;
-    bit_set(out, 16, 1)?;
+    for (place, value) in [(0, 0), (1, 1), (15, 255), (16, 1)] {
+        bit_set(out, place, value)?;
+    }
     address_read(out, &[0, 0, 0, 0, 0, 0])?;
     address_read(out, &[0, 0, 0, 0, 0, 1])?;
     address_read(out, &[0, 0, 0, 0x9F, 0xDD, 0x51])?;
@@ -244,57 +203,44 @@ fn main(rt: HostRuntime) -> io::Result<()> {
     address_read(out, &[0xFF, 0xFF, 0xFF, 0xFF, 0xFF, 0xFE])?;
     address_read(out, &[0xFF, 0xFF, 0xFF, 0xFF, 0xFF, 0xFF])?;
     address_read(out, &[0, 0, 0, 0, 0])?;
-    address_written(out, b"write AB1CD:", Address::Callsign, b"AB1CD    ")?;
-    address_written(out, b"write ab1cd:", Address::Callsign, b"ab1cd    ")?;
-    address_written(out, b"write .........:", Address::Callsign, b".........")?;
+    address_written(out, "AB1CD", Address::Callsign, b"AB1CD    ")?;
+    address_written(out, "ab1cd", Address::Callsign, b"ab1cd    ")?;
+    address_written(out, ".........", Address::Callsign, b".........")?;
+    address_written(out, "a foreign byte", Address::Callsign, b"AB!CD    ")?;
+    address_written(out, "spaces", Address::Callsign, b"         ")?;
+    address_written(out, "eight bytes", Address::Callsign, b"AB1CD   ")?;
+    address_written(out, "invalid", Address::Invalid, b"         ")?;
+    address_written(out, "broadcast", Address::Broadcast, b"         ")?;
+    address_written(out, "40^9", Address::Reserved(0xEE6B28000000), b"         ")?;
     address_written(
         out,
-        b"write a foreign byte:",
-        Address::Callsign,
-        b"AB!CD    ",
-    )?;
-    address_written(out, b"write spaces:", Address::Callsign, b"         ")?;
-    address_written(out, b"write eight bytes:", Address::Callsign, b"AB1CD   ")?;
-    address_written(out, b"write invalid:", Address::Invalid, b"         ")?;
-    address_written(out, b"write broadcast:", Address::Broadcast, b"         ")?;
-    address_written(
-        out,
-        b"write 40^9:",
-        Address::Reserved(0xEE6B28000000),
-        b"         ",
-    )?;
-    address_written(
-        out,
-        b"write 40^9 - 1 as reserved:",
+        "40^9 - 1 as reserved",
         Address::Reserved(0xEE6B27FFFFFF),
         b"         ",
     )?;
     address_written(
         out,
-        b"write all ones as reserved:",
+        "all ones as reserved",
         Address::Reserved(0xFFFFFFFFFFFF),
         b"         ",
     )?;
-    golay_of(out, 0)?;
-    golay_of(out, 1)?;
-    golay_of(out, 0xFFF)?;
-    golay_of(out, 0x1000)?;
-    golay_read(out, 0x0018EB)?;
-    golay_read(out, 0x0018EA)?;
-    golay_read(out, 0x8018EA)?;
-    golay_read(out, 0x8118EA)?;
-    golay_read(out, 0x8118E8)?;
-    golay_read(out, 0x10018EB)?;
-    body(out, b"header of zeros:", encode::write_lsf(&[0u8; 30]))?;
+    for value in [0, 1, 0xFFF, 0x1000] {
+        golay_of(out, value)?;
+    }
+    for word in [0x0018EB, 0x0018EA, 0x8018EA, 0x8118EA, 0x8118E8, 0x10018EB] {
+        golay_read(out, word)?;
+    }
+    body(out, "header of", encode::write_lsf(&[0u8; 30]))?;
     body(
         out,
-        b"stream frame of zeros:",
+        "stream frame of",
         encode::write_stream(0, &[0u8; 5], 0, false, &[0u8; 16]),
     )?;
-    packet_frame(out, 0)?;
-    packet_frame(out, 31)?;
-    packet_frame(out, 32)?;
-    final_frame(out, 25)?;
-    final_frame(out, 26)?;
+    for index in [0, 31, 32] {
+        packet_frame(out, index)?;
+    }
+    for payload_len in [25, 26] {
+        final_frame(out, payload_len)?;
+    }
     out.flush()
 }

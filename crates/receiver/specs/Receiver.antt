@@ -1,9 +1,9 @@
 -- What the receiver answers to a slot, which state comes next, and what packet memory then holds. Assumes nothing.
-use Rattle.std.specs.Prelude.{Bool, true, false, cond, ◌&&◌, List, ◌++◌, ℕ, ◌-◌, ◌*◌, eqb, leb, length, take, replicate}
+use Rattle.std.specs.Prelude.{Bool, true, cond, ◌&&◌, List, ◌++◌, ℕ, ◌-◌, ◌*◌, eqb, leb, length, take, replicate, Result, Ok, Err}
 use Rattle.refusal.specs.declared.Refusal.{Refusal}
 use Rattle.refusal.specs.declared.Refusal.TheVariants.{WrongLength, BadState}
 use Rattle.protocol.specs.declared.StreamFrame.{StreamFrame}
-use Rattle.automaton.specs.Seen.{Seen}
+use Rattle.automaton.specs.Seen.{Fields, Seen}
 use Rattle.automaton.specs.Step as step
 use Rattle.automaton.specs.Step.{State, idle, in_packet, gathering}
 use Rattle.receiver.specs.declared.Phase.{Phase}
@@ -56,56 +56,35 @@ gathered (Gathering k) = k
 
 abbrev pub late_for : step.Late → Late
 late_for step.nothing = Nothing
-late_for (step.late h) = Header
+late_for (step.late h) = Header h
 late_for step.spoiled = Spoiled
 
-abbrev pub answer_for : step.Answer → Answer
-answer_for (step.header h) = answered.Header
-answer_for (step.stored k) = answered.Stored k
-answer_for (step.packet total) = answered.Packet total
-answer_for (step.fields c p f l) = answered.Stream (late_for l)
-answer_for step.ended = answered.Ended
-answer_for (step.refused why) = answered.Refused why
+-- the stream frame of a counter, a part and fields
+abbrev pub stream_frame : ℕ → List ℕ → Fields → StreamFrame
+stream_frame c p f = record { lich_idx = c; lich_part = p; frame_number = f.number; end_of_stream = f.closing; stream_data = f.content }
 
-abbrev pub no_header : List ℕ
-no_header = replicate 30 0
-
-abbrev pub late_header_bytes : step.Late → List ℕ
-late_header_bytes step.nothing = no_header
-late_header_bytes (step.late h) = h
-late_header_bytes step.spoiled = no_header
-
--- the header that an answer carries, or 30 zeros
-abbrev pub header_for : step.Answer → List ℕ
-header_for (step.header h) = h
-header_for (step.stored k) = no_header
-header_for (step.packet total) = no_header
-header_for (step.fields c p f l) = late_header_bytes l
-header_for step.ended = no_header
-header_for (step.refused why) = no_header
-
-abbrev pub no_stream : StreamFrame
-no_stream = record { lich_idx = 0; lich_part = replicate 5 0; frame_number = 0; end_of_stream = false; stream_data = replicate 16 0 }
-
--- the stream frame that an answer carries, or zeros
-abbrev pub stream_for : step.Answer → StreamFrame
-stream_for (step.header h) = no_stream
-stream_for (step.stored k) = no_stream
-stream_for (step.packet total) = no_stream
-stream_for (step.fields c p f l) =
-    record { lich_idx = c; lich_part = p; frame_number = f.number; end_of_stream = f.closing; stream_data = f.content }
-stream_for step.ended = no_stream
-stream_for (step.refused why) = no_stream
+abbrev pub answer_for : step.Answer → Result Answer Refusal
+answer_for (step.header h) = Ok (answered.Header h)
+answer_for (step.stored k) = Ok (answered.Stored k)
+answer_for (step.packet total) = Ok (answered.Packet total)
+answer_for (step.fields c p f l) = Ok (answered.Stream (stream_frame c p f) (late_for l))
+answer_for step.ended = Ok answered.Ended
+answer_for (step.refused why) = Err why
 
 -- an answer of the automaton and its next state
 abbrev pub received_from : State → step.Answer → Received
-received_from s a = record { answer = answer_for a; header = header_for a; stream = stream_for a; next = receiver_for s }
+received_from s a = record { answer = answer_for a; next = receiver_for s }
+
+-- what comes of a step: where it is refused nothing is open then
+abbrev pub outcome_of : Result (Answer × Receiver) Refusal → Received
+outcome_of (Ok said) = record { answer = Ok said.0; next = said.1 }
+outcome_of (Err why) = record { answer = Err why; next = receiver_for idle }
 
 -- ---- a slot
 
 -- refused with 1 or 12: no state changes
 abbrev pub unchanged : Refusal → Receiver → Received
-unchanged why self = record { answer = answered.Refused why; header = no_header; stream = no_stream; next = self }
+unchanged why self = record { answer = Err why; next = self }
 
 -- is it a slot of 48 bytes, with 825 bytes of packet memory?
 abbrev pub fits : List ℕ → List ℕ → Bool

@@ -1,12 +1,12 @@
 -- Slots fed in order to one receiver from its start, state and packet memory untouched between calls. Assumes nothing.
-use Rattle.std.specs.Prelude.{cond, List, [], ◌∷◌, ℕ, eqb, length, take}
-use Rattle.protocol.specs.declared.StreamFrame.{StreamFrame}
+use Rattle.std.specs.Prelude.{cond, List, [], ◌∷◌, ℕ, eqb, length, take, Result, Ok, Err}
+use Rattle.refusal.specs.declared.Refusal.{Refusal}
 use Rattle.automaton.specs.Step.{idle}
 use Rattle.automaton.specs.Runs as seen
 use Rattle.automaton.specs.Runs.{Slots, ◌▸◌}
 use Rattle.receiver.specs.declared.Receiver.{Receiver}
 use Rattle.receiver.specs.declared.Answer.{Answer}
-use Rattle.receiver.specs.declared.Answer.TheVariants.{Header, Stored, Packet, Stream, Ended, Refused}
+use Rattle.receiver.specs.declared.Answer.TheVariants.{Header, Stored, Packet, Stream, Ended}
 use Rattle.receiver.specs.declared.Received.{Received}
 use Rattle.receiver.specs.See.{see}
 use Rattle.receiver.specs.Receiver.{receiver_for, received_of, memory_of}
@@ -36,23 +36,21 @@ after m start = record { receiver = receiver_for idle; memory = m }
 after m (past ▹ x) = fed (after m past) x
 
 -- the packet bytes that an answer hands out: those that memory begins with
-abbrev pub handed_out_bytes : Answer → List ℕ → List ℕ
-handed_out_bytes Header m = []
-handed_out_bytes (Stored k) m = []
-handed_out_bytes (Packet total) m = take total m
-handed_out_bytes (Stream l) m = []
-handed_out_bytes Ended m = []
-handed_out_bytes (Refused why) m = []
+abbrev pub handed_out_bytes : Result Answer Refusal → List ℕ → List ℕ
+handed_out_bytes (Ok (Header h)) m = []
+handed_out_bytes (Ok (Stored k)) m = []
+handed_out_bytes (Ok (Packet total)) m = take total m
+handed_out_bytes (Ok (Stream f l)) m = []
+handed_out_bytes (Ok Ended) m = []
+handed_out_bytes (Err why) m = []
 
--- what a caller hears at a slot: the answer, what it carries, and the packet bytes handed out
+-- what a caller hears at a slot: the answer with what it carries, and the packet bytes handed out
 pub record Heard : Type 0 where
-  pub answer : Answer
-  pub header : List ℕ
-  pub stream : StreamFrame
+  pub answer : Result Answer Refusal
   pub bytes : List ℕ
 
 abbrev pub hearing : Received → List ℕ → Heard
-hearing r m = record { answer = r.answer; header = r.header; stream = r.stream; bytes = handed_out_bytes r.answer m }
+hearing r m = record { answer = r.answer; bytes = handed_out_bytes r.answer m }
 
 abbrev pub heard_by : Held → List ℕ → Heard
 heard_by h x = hearing (received_of h.receiver x h.memory) (memory_of h.receiver x h.memory)

@@ -1,48 +1,37 @@
 -- What a slot of 48 bytes says by itself: sync, then body, read by the rules for plain bodies. Assumes nothing.
-use Rattle.std.specs.Prelude.{cond, List, ℕ, eqb, take, drop}
+use Rattle.std.specs.Prelude.{cond, List, ℕ, eqb, take, drop, Result, Ok, Err}
 use Rattle.laws.specs.Value.{value_of}
+use Rattle.refusal.specs.declared.Refusal.{Refusal}
 use Rattle.refusal.specs.declared.Refusal.TheVariants.{BadHeader, UnknownSync}
-use Rattle.refusal.specs.declared.Verdict.{Verdict}
-use Rattle.refusal.specs.declared.Verdict.TheVariants.{Done, Refused}
 use Rattle.crc.specs.Crc.{crc}
+use Rattle.protocol.specs.declared.LsfFrame.{LsfFrame}
 use Rattle.protocol.specs.declared.StreamFrame.{StreamFrame}
+use Rattle.protocol.specs.declared.PacketFrame.{PacketFrame}
 use Rattle.protocol.specs.declared.PacketFrameCounter.{PacketFrameCounter}
 use Rattle.protocol.specs.declared.PacketFrameCounter.TheVariants.{Frame, FinalFrame}
-use Rattle.decode.specs.declared.LsfRead.{LsfRead}
-use Rattle.decode.specs.declared.StreamRead.{StreamRead}
-use Rattle.decode.specs.declared.PacketRead.{PacketRead}
 use Rattle.decode.specs.Bodies.{lsf_read_of, stream_read_of, packet_read_of}
 use Rattle.automaton.specs.Seen.{Seen, head, piece, final, stream, end, unread}
 
 -- a header that reads: 5 where its CRC over 30 bytes is not zero
-abbrev pub header_by : Verdict → List ℕ → Seen
-header_by Done h = cond (eqb (crc h) 0) (head h) (unread BadHeader)
-header_by (Refused why) h = unread why
-
-abbrev pub header_seen : LsfRead → Seen
-header_seen r = header_by r.answer r.frame.bytes
+abbrev pub header_seen : Result LsfFrame Refusal → Seen
+header_seen (Ok f) = cond (eqb (crc f.bytes) 0) (head f.bytes) (unread BadHeader)
+header_seen (Err why) = unread why
 
 abbrev pub seen_stream : StreamFrame → Seen
 seen_stream f =
     stream f.lich_idx f.lich_part (record { number = f.frame_number; closing = f.end_of_stream; content = f.stream_data })
 
-abbrev pub stream_by : Verdict → StreamFrame → Seen
-stream_by Done f = seen_stream f
-stream_by (Refused why) f = unread why
-
-abbrev pub stream_seen : StreamRead → Seen
-stream_seen r = stream_by r.answer r.frame
+abbrev pub stream_seen : Result StreamFrame Refusal → Seen
+stream_seen (Ok f) = seen_stream f
+stream_seen (Err why) = unread why
 
 abbrev pub counted : PacketFrameCounter → List ℕ → Seen
 counted (Frame k) b = piece k b
 counted (FinalFrame len) b = final len b
 
-abbrev pub packet_by : Verdict → PacketFrameCounter → List ℕ → Seen
-packet_by Done c b = counted c b
-packet_by (Refused why) c b = unread why
-
-abbrev pub packet_seen : PacketRead → Seen
-packet_seen r = packet_by r.answer r.frame.counter r.frame.payload
+abbrev pub packet_seen : Result PacketFrame Refusal → Seen
+packet_seen (Ok f) = counted f.counter f.payload
+packet_seen (Err why) = unread why
 
 -- by the sync word: 0x55F7 header, 0xFF5D stream, 0x75FF packet, 0x555D end of transmission, its body unread; 7 for any other
 abbrev pub seen_by : ℕ → List ℕ → Seen

@@ -1,15 +1,15 @@
 // The slot receiver: what a slot of 48 bytes says is read by `decode`, and then taken as the automaton has it.
 #![tactic(auto)]
 
-ghost use Rattle.std.specs.Prelude.{◌≡◌, [], ◌++◌, ◌+◌, ◌*◌, ◌≤◌, ◌<◌, length, take, replicate, true};
+ghost use Rattle.std.specs.Prelude.{◌≡◌, [], ◌++◌, ◌+◌, ◌*◌, ◌≤◌, length, take, true, Result, Ok, Err};
 ghost use Rattle.automaton.specs.Seen.{head, piece, final};
-ghost use Rattle.automaton.specs.Step.{put, idle, in_packet, header, refused, kept};
+ghost use Rattle.automaton.specs.Step.{put, idle, in_packet, kept};
 ghost use Rattle.decode.specs.Bodies.{lsf_read_of, stream_read_of, packet_read_of};
 ghost use Rattle.receiver.specs.See.{header_seen, seen_stream, stream_seen, packet_seen};
-ghost use Rattle.receiver.specs.Receiver.{state_of, within, gathered, padded, no_stream, receiver_for, received_from, unchanged, taken, received_of, memory_of};
+ghost use Rattle.receiver.specs.Receiver.{state_of, within, gathered, padded, receiver_for, outcome_of, unchanged, taken, received_of, memory_of};
 
 use protocol::{LsfFrame, Mode, PacketFrameCounter, StreamFrame};
-use refusal::{Refusal, Verdict};
+use refusal::Refusal;
 
 // What is open.
 #[derive(Clone, Copy)]
@@ -22,6 +22,7 @@ pub enum Phase {
 }
 
 // A receiver's state. Part c is bytes 5c to 5c + 4 of `parts`.
+// kept: the parts stand beside the phase that counts them, since C holds the two so and hands them back as it was given them.
 #[derive(Clone, Copy)]
 pub struct Receiver {
     pub phase: Phase,
@@ -29,33 +30,33 @@ pub struct Receiver {
 }
 
 // What a stream slot brings beside its fields.
+// kept: three cases by name, for that the parts are no header is said beside the fields, and is no refusal.
 #[derive(Clone, Copy)]
 pub enum Late {
     Nothing,
-    Header,
+    // The six parts gathered are a header.
+    Header([u8; 30]),
+    // They are none.
     Spoiled,
 }
 
 #[derive(Clone, Copy)]
 pub enum Answer {
-    // A header: its bytes stand beside the answer.
-    Header,
+    // A header's bytes.
+    Header([u8; 30]),
     // A piece is stored: its number.
     Stored(usize),
     // A packet is handed out: so many bytes from the start of packet memory.
     Packet(usize),
-    // Stream fields: they, and a late header's bytes, stand beside the answer.
-    Stream(Late),
+    // Stream fields, and what they bring.
+    Stream(StreamFrame, Late),
     Ended,
-    Refused(Refusal),
 }
 
-// The answer, the header and the stream frame that it carries or zeros, and the next state.
+// The answer, and the next state.
 #[derive(Clone, Copy)]
 pub struct Received {
-    pub answer: Answer,
-    pub header: [u8; 30],
-    pub stream: StreamFrame,
+    pub answer: Result<Answer, Refusal>,
     pub next: Receiver,
 }
 
@@ -64,79 +65,56 @@ fn store(memory: &mut [u8], at: usize, b: &[u8])
     requires { at + length b.now ≤ length memory.old }
     ensures { memory.new ≡ put at b.now memory.old }
 {
-    for i in 0..b.len() {
-        memory[at + i] = b[i];
-    }
+    memory[at..at + b.len()].copy_from_slice(b);
 }
 
-fn wide(x: u8) -> u16
-    ensures { (result ≡ x) × (result < 256) }
+// What is said where no part is gathered then.
+fn told(answer: Answer, phase: Phase) -> (Answer, Receiver)
+    ensures { result ≡ (answer, record { phase = phase; parts = padded [] }) }
 {
-    x as u16
+    let next = Receiver {
+        phase,
+        parts: [0u8; 30],
+    };
+    (answer, next)
 }
 
-fn no_stream() -> StreamFrame
-    ensures { result ≡ no_stream }
+// What comes of a step: where it is refused nothing is open then.
+fn outcome(step: Result<(Answer, Receiver), Refusal>) -> Received
+    ensures { result ≡ outcome_of step }
 {
-    StreamFrame {
-        lich_idx: 0,
-        lich_part: [0u8; 5],
-        frame_number: 0,
-        end_of_stream: false,
-        stream_data: [0u8; 16],
-    }
-}
-
-// An answer that carries no stream frame, with what is open then.
-fn told(answer: Answer, header: [u8; 30], phase: Phase) -> Received
-    ensures { result ≡ record { answer = answer; header = header; stream = no_stream; next = record { phase = phase; parts = replicate 30 0 } } }
-{
-    Received {
-        answer,
-        header,
-        stream: no_stream(),
-        next: Receiver {
-            phase,
-            parts: [0u8; 30],
+    match step {
+        Ok((answer, next)) => Received {
+            answer: Ok(answer),
+            next,
+        },
+        Err(why) => Received {
+            answer: Err(why),
+            next: Receiver::new(),
         },
     }
 }
 
-// Refused: nothing is open then.
-fn closed(why: Refusal) -> Received
-    ensures { result ≡ received_from idle (refused why) }
-{
-    told(Answer::Refused(why), [0u8; 30], Phase::Idle)
-}
-
 // A header of good CRC: one that is no stream's opens a packet.
-fn header_step(bytes: [u8; 30]) -> Received
-    ensures { result ≡ taken idle [] (head bytes) }
+fn header_step(frame: LsfFrame) -> (Answer, Receiver)
+    ensures { outcome_of (Ok result) ≡ taken idle [] (head frame.bytes) }
 {
-    let frame = LsfFrame { bytes };
-    match frame.mode() {
-        Mode::Stream => told(Answer::Header, bytes, Phase::Idle),
-        Mode::Packet => told(Answer::Header, bytes, Phase::Packet(0)),
-    }
+    let phase = match frame.mode() {
+        Mode::Stream => Phase::Idle,
+        Mode::Packet => Phase::Packet(0),
+    };
+    told(Answer::Header(frame.bytes), phase)
 }
 
 // The body of a header slot.
-fn header_slot(body: &[u8]) -> Received
-    ensures { result ≡ taken idle [] (header_seen (lsf_read_of body.now)) }
+fn header_slot(body: &[u8]) -> Result<(Answer, Receiver), Refusal>
+    ensures { outcome_of result ≡ taken idle [] (header_seen (lsf_read_of body.now)) }
 {
-    let read = decode::read_lsf(body);
-    let answer = read.answer;
-    match answer {
-        Verdict::Done => {
-            let frame = read.frame;
-            if frame.check_crc() != 0 {
-                return closed(Refusal::BadHeader);
-            }
-            let bytes = frame.bytes;
-            header_step(bytes)
-        }
-        Verdict::Refused(why) => closed(why),
+    let frame = decode::read_lsf(body)?;
+    if frame.check_crc() != 0 {
+        return Err(Refusal::BadHeader);
     }
+    Ok(header_step(frame))
 }
 
 // How many parts are gathered.
@@ -161,60 +139,51 @@ fn with_part(parts: [u8; 30], c: usize, part: [u8; 5]) -> [u8; 30]
     p
 }
 
-// Stream fields, with what they bring and what is open then.
-fn streamed(
-    late: Late,
-    header: [u8; 30],
-    stream: StreamFrame,
-    phase: Phase,
-    parts: [u8; 30],
-) -> Received
-    ensures { result ≡ record { answer = Answer.Stream late; header = header; stream = stream; next = record { phase = phase; parts = parts } } }
-{
-    Received {
-        answer: Answer::Stream(late),
-        header,
-        stream,
-        next: Receiver { phase, parts },
-    }
-}
-
 // A packet frame that is not final, where frame n is expected.
-fn piece_step(n: usize, number: usize, frame: &[u8], memory: &mut [u8]) -> Received
-    requires { (length memory.old ≡ 825) × (n ≤ 32) × (length frame.now ≡ 25) }
-    ensures { (result ≡ taken (in_packet n) memory.old (piece number frame.now)) × (memory.new ≡ kept (in_packet n) memory.old (piece number frame.now)) }
+fn piece_step(
+    n: usize,
+    number: usize,
+    frame: &[u8; 25],
+    memory: &mut [u8],
+) -> Result<(Answer, Receiver), Refusal>
+    requires { 25 * n + 25 ≤ length memory.old }
+    ensures { (outcome_of result ≡ taken (in_packet n) memory.old (piece number frame.now)) × (memory.new ≡ kept (in_packet n) memory.old (piece number frame.now)) }
 {
     if number != n {
-        return closed(Refusal::OutOfTurn);
+        return Err(Refusal::OutOfTurn);
     }
-    let next = n + 1;
     store(memory, 25 * n, frame);
-    told(Answer::Stored(n), [0u8; 30], Phase::Packet(next))
+    Ok(told(Answer::Stored(n), Phase::Packet(n + 1)))
 }
 
 // A final packet frame after n frames: it is stored only when the packet is handed out.
-fn final_step(n: usize, len: usize, frame: &[u8], memory: &mut [u8]) -> Received
-    requires { (length memory.old ≡ 825) × (n ≤ 32) × (length frame.now ≡ 25) }
-    ensures { (result ≡ taken (in_packet n) memory.old (final len frame.now)) × (memory.new ≡ kept (in_packet n) memory.old (final len frame.now)) }
+fn final_step(
+    n: usize,
+    len: usize,
+    frame: &[u8; 25],
+    memory: &mut [u8],
+) -> Result<(Answer, Receiver), Refusal>
+    requires { 25 * n + 25 ≤ length memory.old }
+    ensures { (outcome_of result ≡ taken (in_packet n) memory.old (final len frame.now)) × (memory.new ≡ kept (in_packet n) memory.old (final len frame.now)) }
 {
     if len == 0 {
-        return closed(Refusal::BadFinal);
+        return Err(Refusal::BadFinal);
     }
     if 25 < len {
-        return closed(Refusal::BadFinal);
+        return Err(Refusal::BadFinal);
     }
     let at = 25 * n;
     let total = at + len;
     if total < 3 {
-        return closed(Refusal::TooShort);
+        return Err(Refusal::TooShort);
     }
     let last = &frame[..len];
     let sum = crc::m17_crc(&memory[..at]);
     if crc::update(sum, last) != 0 {
-        return closed(Refusal::BadPacket);
+        return Err(Refusal::BadPacket);
     }
     store(memory, at, last);
-    told(Answer::Packet(total), [0u8; 30], Phase::Idle)
+    Ok(told(Answer::Packet(total), Phase::Idle))
 }
 
 // Is the state one that a receiver comes to?
@@ -225,6 +194,65 @@ fn is_within(phase: Phase) -> bool
         Phase::Idle => true,
         Phase::Packet(n) => n <= 32,
         Phase::Gathering(k) => k <= 5,
+    }
+}
+
+// A receiver whose state is one that it comes to.
+#[derive(Clone, Copy)]
+struct Checked {
+    receiver: Receiver,
+    ghost within: { within receiver.phase ≡ true },
+}
+
+impl Checked {
+    // A stream frame: counter 0 starts gathering, counter k adds a part, any other stops it.
+    fn stream_step(self, frame: StreamFrame) -> (Answer, Receiver)
+        ensures { outcome_of (Ok result) ≡ taken (state_of self.receiver) [] (seen_stream frame) }
+    {
+        let counter = usize::from(frame.lich_idx);
+        if counter != 0 && counter != count(self.receiver.phase) {
+            return told(Answer::Stream(frame, Late::Nothing), Phase::Idle);
+        }
+        let parts = with_part(self.receiver.parts, counter, frame.lich_part);
+        if counter != 5 {
+            let next = Receiver {
+                phase: Phase::Gathering(counter + 1),
+                parts,
+            };
+            return (Answer::Stream(frame, Late::Nothing), next);
+        }
+        if crc::m17_crc(&parts) != 0 {
+            return told(Answer::Stream(frame, Late::Spoiled), Phase::Idle);
+        }
+        told(Answer::Stream(frame, Late::Header(parts)), Phase::Idle)
+    }
+
+    // The body of a stream slot.
+    fn stream_slot(self, body: &[u8]) -> Result<(Answer, Receiver), Refusal>
+        ensures { outcome_of result ≡ taken (state_of self.receiver) [] (stream_seen (stream_read_of body.now)) }
+    {
+        let frame = decode::read_stream(body)?;
+        Ok(self.stream_step(frame))
+    }
+
+    // The body of a packet slot.
+    fn packet_slot(self, body: &[u8], memory: &mut [u8]) -> Result<(Answer, Receiver), Refusal>
+        requires { length memory.old ≡ 825 }
+        ensures { (outcome_of result ≡ taken (state_of self.receiver) memory.old (packet_seen (packet_read_of body.now))) × (memory.new ≡ kept (state_of self.receiver) memory.old (packet_seen (packet_read_of body.now))) }
+    {
+        let frame = decode::read_packet(body)?;
+        let Phase::Packet(n) = self.receiver.phase else {
+            return Err(Refusal::OutOfTurn);
+        };
+        match frame.counter {
+            PacketFrameCounter::Frame { index } => piece_step(n, index, &frame.payload, memory),
+            PacketFrameCounter::FinalFrame { payload_len } => final_step(
+                n,
+                payload_len,
+                &frame.payload,
+                memory,
+            ),
+        }
     }
 }
 
@@ -239,90 +267,11 @@ impl Receiver {
         }
     }
 
-    // A stream frame: counter 0 starts gathering, counter k adds a part, any other stops it.
-    fn stream_step(self, frame: StreamFrame) -> Received
-        requires { within self.phase ≡ true }
-        ensures { result ≡ taken (state_of self) [] (seen_stream frame) }
-    {
-        let phase = self.phase;
-        let old = self.parts;
-        let part = frame.lich_part;
-        let counter = frame.lich_idx as usize;
-        let zeros = [0u8; 30];
-        if counter == 0 {
-            let parts = with_part(old, 0, part);
-            return streamed(Late::Nothing, zeros, frame, Phase::Gathering(1), parts);
-        }
-        if counter != count(phase) {
-            return streamed(Late::Nothing, zeros, frame, Phase::Idle, zeros);
-        }
-        let parts = with_part(old, counter, part);
-        if counter != 5 {
-            return streamed(
-                Late::Nothing,
-                zeros,
-                frame,
-                Phase::Gathering(counter + 1),
-                parts,
-            );
-        }
-        if crc::m17_crc(&parts) != 0 {
-            return streamed(Late::Spoiled, zeros, frame, Phase::Idle, zeros);
-        }
-        streamed(Late::Header, parts, frame, Phase::Idle, zeros)
-    }
-
-    // The body of a stream slot.
-    fn stream_slot(self, body: &[u8]) -> Received
-        requires { within self.phase ≡ true }
-        ensures { result ≡ taken (state_of self) [] (stream_seen (stream_read_of body.now)) }
-    {
-        let read = decode::read_stream(body);
-        let answer = read.answer;
-        match answer {
-            Verdict::Done => {
-                let frame = read.frame;
-                self.stream_step(frame)
-            }
-            Verdict::Refused(why) => closed(why),
-        }
-    }
-
-    // The body of a packet slot.
-    fn packet_slot(self, body: &[u8], memory: &mut [u8]) -> Received
-        requires { (length memory.old ≡ 825) × (within self.phase ≡ true) }
-        ensures { (result ≡ taken (state_of self) memory.old (packet_seen (packet_read_of body.now))) × (memory.new ≡ kept (state_of self) memory.old (packet_seen (packet_read_of body.now))) }
-    {
-        let read = decode::read_packet(body);
-        let answer = read.answer;
-        if let Verdict::Refused(why) = answer {
-            return closed(why);
-        }
-        let phase = self.phase;
-        let Phase::Packet(n) = phase else {
-            return closed(Refusal::OutOfTurn);
-        };
-        let frame = read.frame;
-        let payload = frame.payload;
-        let counter = frame.counter;
-        match counter {
-            PacketFrameCounter::Frame { index } => piece_step(n, index, &payload, memory),
-            PacketFrameCounter::FinalFrame { payload_len } => final_step(
-                n,
-                payload_len,
-                &payload,
-                memory,
-            ),
-        }
-    }
-
     fn unchanged(self, why: Refusal) -> Received
         ensures { result ≡ unchanged why self }
     {
         Received {
-            answer: Answer::Refused(why),
-            header: [0u8; 30],
-            stream: no_stream(),
+            answer: Err(why),
             next: self,
         }
     }
@@ -337,24 +286,19 @@ impl Receiver {
         if memory.len() != 825 {
             return self.unchanged(Refusal::WrongLength);
         }
-        let phase = self.phase;
-        if !is_within(phase) {
+        if !is_within(self.phase) {
             return self.unchanged(Refusal::BadState);
         }
-        let sync = wide(slot[0]) * 256 + wide(slot[1]);
+        let checked = Checked { receiver: self };
+        let sync = u16::from_be_bytes([slot[0], slot[1]]);
         let body = &slot[2..];
-        if sync == 0x55F7 {
-            return header_slot(body);
+        // kept: sync words as numbers: an enum of the four would be made and matched here alone.
+        match sync {
+            0x55F7 => outcome(header_slot(body)),
+            0xFF5D => outcome(checked.stream_slot(body)),
+            0x75FF => outcome(checked.packet_slot(body, memory)),
+            0x555D => outcome(Ok(told(Answer::Ended, Phase::Idle))),
+            _ => outcome(Err(Refusal::UnknownSync)),
         }
-        if sync == 0xFF5D {
-            return self.stream_slot(body);
-        }
-        if sync == 0x75FF {
-            return self.packet_slot(body, memory);
-        }
-        if sync == 0x555D {
-            return told(Answer::Ended, [0u8; 30], Phase::Idle);
-        }
-        closed(Refusal::UnknownSync)
     }
 }

@@ -1,9 +1,7 @@
 -- The number of each refusal: 1 to 12 as the table "When the desk says no" has them, 13 to 15 kept for later requests. Assumes nothing.
-use Rattle.std.specs.Prelude.{ℕ}
+use Rattle.std.specs.Prelude.{ℕ, Result, Ok, Err}
 use Rattle.refusal.specs.declared.Refusal.{Refusal}
 use Rattle.refusal.specs.declared.Refusal.TheVariants.{WrongLength, OutOfRange, TooFar, BadGolay, BadHeader, BadAddress, UnknownSync, OutOfTurn, BadFinal, TooShort, BadPacket, BadState, BadSample, Ended, Full}
-use Rattle.refusal.specs.declared.Verdict.{Verdict}
-use Rattle.refusal.specs.declared.Verdict.TheVariants.{Done, Refused}
 
 abbrev pub number_of : Refusal → ℕ
 number_of WrongLength = 1
@@ -23,6 +21,11 @@ number_of Ended = 14
 number_of Full = 15
 
 -- 0 for what is no refusal
-abbrev pub said_of : Verdict → ℕ
-said_of Done = 0
-said_of (Refused why) = number_of why
+abbrev pub said_of : {A : Type 0} → Result A Refusal → ℕ
+said_of (Ok x) = 0
+said_of (Err why) = number_of why
+
+-- what is made of an answer that is no refusal
+abbrev pub made_of : {A B : Type 0} → (A → B) → Result A Refusal → Result B Refusal
+made_of f (Ok x) = Ok (f x)
+made_of f (Err why) = Err why

@@ -4,8 +4,11 @@
 ghost use Rattle.std.specs.Prelude.{◌≡◌};
 ghost use Rattle.refusal.specs.Number.{number_of, said_of};
 
+use std::error::Error;
+use std::fmt;
+
 // One name for each number, in the order of the numbers 1 to 15. Nothing gives 13 to 15 yet.
-#[derive(Clone, Copy)]
+#[derive(Clone, Copy, Debug, PartialEq, Eq)]
 pub enum Refusal {
     // 1: a buffer isn't as long as called for.
     WrongLength,
@@ -39,42 +42,62 @@ pub enum Refusal {
     Full,
 }
 
-// The answer of what answers nothing but "done" or a refusal.
-#[derive(Clone, Copy)]
-pub enum Verdict {
-    Done,
-    Refused(Refusal),
-}
-
 // The number of a refusal.
-pub fn number(why: Refusal) -> u8
-    ensures { result ≡ number_of why }
-{
-    match why {
-        Refusal::WrongLength => 1,
-        Refusal::OutOfRange => 2,
-        Refusal::TooFar => 3,
-        Refusal::BadGolay => 4,
-        Refusal::BadHeader => 5,
-        Refusal::BadAddress => 6,
-        Refusal::UnknownSync => 7,
-        Refusal::OutOfTurn => 8,
-        Refusal::BadFinal => 9,
-        Refusal::TooShort => 10,
-        Refusal::BadPacket => 11,
-        Refusal::BadState => 12,
-        Refusal::BadSample => 13,
-        Refusal::Ended => 14,
-        Refusal::Full => 15,
+impl From<Refusal> for u8 {
+    ghost from_gives = { λ why n. n ≡ number_of why };
+
+    fn from(why: Refusal) -> u8 {
+        match why {
+            Refusal::WrongLength => 1,
+            Refusal::OutOfRange => 2,
+            Refusal::TooFar => 3,
+            Refusal::BadGolay => 4,
+            Refusal::BadHeader => 5,
+            Refusal::BadAddress => 6,
+            Refusal::UnknownSync => 7,
+            Refusal::OutOfTurn => 8,
+            Refusal::BadFinal => 9,
+            Refusal::TooShort => 10,
+            Refusal::BadPacket => 11,
+            Refusal::BadState => 12,
+            Refusal::BadSample => 13,
+            Refusal::Ended => 14,
+            Refusal::Full => 15,
+        }
     }
 }
 
-// The number of a verdict: 0 where it is no refusal.
-pub fn said(answer: Verdict) -> u8
+// What a refusal means, in words.
+impl fmt::Display for Refusal {
+    fn fmt<W: fmt::Write>(&self, f: &mut fmt::Formatter<W>) -> fmt::Result {
+        f.write_str(match self {
+            Refusal::WrongLength => "buffer of another length",
+            Refusal::OutOfRange => "field out of range",
+            Refusal::TooFar => "nearest word over six bits off",
+            Refusal::BadGolay => "Golay word over three bits off",
+            Refusal::BadHeader => "header CRC not zero",
+            Refusal::BadAddress => "no such address",
+            Refusal::UnknownSync => "sync none of the four",
+            Refusal::OutOfTurn => "packet slot out of turn or no packet open",
+            Refusal::BadFinal => "final length 0 or over 25",
+            Refusal::TooShort => "packet under three bytes",
+            Refusal::BadPacket => "packet CRC not zero",
+            Refusal::BadState => "state out of range",
+            Refusal::BadSample => "sample not finite or too large",
+            Refusal::Ended => "call after the end",
+            Refusal::Full => "no room for one more",
+        })
+    }
+}
+
+impl Error for Refusal {}
+
+// The number of an answer: 0 where it is no refusal.
+pub fn said<T: Copy>(answer: Result<T, Refusal>) -> u8
     ensures { result ≡ said_of answer }
 {
     match answer {
-        Verdict::Done => 0,
-        Verdict::Refused(why) => number(why),
+        Ok(_) => 0,
+        Err(why) => u8::from(why),
     }
 }

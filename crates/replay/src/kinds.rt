@@ -1,33 +1,72 @@
-// The nine kinds of records, numbered as in the file.
-use print::text;
-use std::io;
-use std::io::Write;
+// The nine kinds of records, in the order of their numbers in the file.
+use std::fmt;
+use std::fmt::Display;
 
-pub fn name<W: Write>(out: &mut W, kind: u8) -> io::Result<()> {
-    match kind {
-        0 => text(out, b"header read"),
-        1 => text(out, b"stream read"),
-        2 => text(out, b"packet read"),
-        3 => text(out, b"header written"),
-        4 => text(out, b"stream written"),
-        5 => text(out, b"packet written"),
-        6 => text(out, b"address read"),
-        7 => text(out, b"address written"),
-        _ => text(out, b"header set"),
+#[derive(Clone, Copy)]
+pub enum RecordKind {
+    HeaderRead,
+    StreamRead,
+    PacketRead,
+    HeaderWritten,
+    StreamWritten,
+    PacketWritten,
+    AddressRead,
+    AddressWritten,
+    HeaderSet,
+}
+
+// There is no such kind.
+#[derive(Clone, Copy)]
+pub struct UnknownKind;
+
+impl RecordKind {
+    pub const ALL: [RecordKind; 9] = [
+        RecordKind::HeaderRead,
+        RecordKind::StreamRead,
+        RecordKind::PacketRead,
+        RecordKind::HeaderWritten,
+        RecordKind::StreamWritten,
+        RecordKind::PacketWritten,
+        RecordKind::AddressRead,
+        RecordKind::AddressWritten,
+        RecordKind::HeaderSet,
+    ];
+
+    // The bytes of a record, its kind's byte with them. kept: by the kind, since the place goes on whatever became of the record.
+    pub fn size(self) -> u64 {
+        match self {
+            RecordKind::HeaderRead | RecordKind::HeaderWritten => 78,
+            RecordKind::StreamRead | RecordKind::StreamWritten => 73,
+            RecordKind::PacketRead | RecordKind::PacketWritten => 75,
+            RecordKind::AddressRead | RecordKind::AddressWritten => 24,
+            RecordKind::HeaderSet => 79,
+        }
     }
 }
 
-// The bytes of a record, its kind's byte with them.
-pub fn size(kind: u8) -> u64 {
-    match kind {
-        0 => 78,
-        1 => 73,
-        2 => 75,
-        3 => 78,
-        4 => 73,
-        5 => 75,
-        6 => 24,
-        7 => 24,
-        _ => 79,
+impl TryFrom<u8> for RecordKind {
+    type Error = UnknownKind;
+
+    fn try_from(number: u8) -> Result<RecordKind, UnknownKind> {
+        RecordKind::ALL
+            .get(usize::from(number))
+            .copied()
+            .ok_or(UnknownKind)
+    }
+}
+
+impl Display for RecordKind {
+    fn fmt<W: fmt::Write>(&self, f: &mut fmt::Formatter<W>) -> fmt::Result {
+        f.write_str(match self {
+            RecordKind::HeaderRead => "header read",
+            RecordKind::StreamRead => "stream read",
+            RecordKind::PacketRead => "packet read",
+            RecordKind::HeaderWritten => "header written",
+            RecordKind::StreamWritten => "stream written",
+            RecordKind::PacketWritten => "packet written",
+            RecordKind::AddressRead => "address read",
+            RecordKind::AddressWritten => "address written",
+            RecordKind::HeaderSet => "header set",
+        })
     }
 }

@@ -5,7 +5,6 @@
 // many of them were answered, were refused and differ; before these, the first record that differs is named by its place in the file.
 #![tactic(auto)]
 
-mod answer;
 mod asked;
 mod kinds;
 mod records;
@@ -19,6 +18,7 @@ use std::rt::Runtime;
 use std::{fs, io, str};
 
 // Says on standard error what failed and why.
+// kept: `slots` has the same: shared, it would be a public function that promises nothing.
 fn fail(rt: &impl Runtime, what: &str, why: io::Error) -> ExitCode {
     let _ = eprintln!(rt; "{what}: {why}");
     ExitCode::FAILURE

@@ -4,7 +4,7 @@ use std::io;
 use std::io::Write;
 
 fn six_flips<W: Write>(out: &mut W) -> io::Result<()> {
-    let run = Run::start(out, b"six flips in each slot of a packet", 27)?;
+    let run = Run::start(out, "six flips in each slot of a packet", 27)?;
     let open = run.flipped(3, 50, 6)?.open()?.flipped(10, 41, 6)?.piece(0)?;
     open.flipped(7, 60, 6)?
         .last(1, 2)?
@@ -14,7 +14,7 @@ fn six_flips<W: Write>(out: &mut W) -> io::Result<()> {
 }
 
 fn seven_flips<W: Write>(out: &mut W) -> io::Result<()> {
-    let run = Run::start(out, b"seven flips in a slot of a packet", 77)?;
+    let run = Run::start(out, "seven flips in a slot of a packet", 77)?;
     let none = run.flipped(3, 50, 7)?.open()?.piece(0)?;
     let shut = none
         .open()?
@@ -30,7 +30,7 @@ fn seven_flips<W: Write>(out: &mut W) -> io::Result<()> {
 fn golay_words<W: Write>(out: &mut W) -> io::Result<()> {
     let run = Run::start(
         out,
-        b"three flips in each word of a LICH and six beside it, then four in one word",
+        "three flips in each word of a LICH and six beside it, then four in one word",
         0,
     )?;
     let read = run
@@ -54,7 +54,7 @@ fn golay_words<W: Write>(out: &mut W) -> io::Result<()> {
 }
 
 fn order<W: Write>(out: &mut W) -> io::Result<()> {
-    let run = Run::start(out, b"which refusal comes first, in a packet", 3)?;
+    let run = Run::start(out, "which refusal comes first, in a packet", 3)?;
     let nine = run.open()?.last(0, 0)?.open()?.hand(0, 26)?;
     let ten = nine.open()?.last(0, 1)?.open()?.last(0, 2)?;
     let eleven = ten.open()?.last(0, 4)?.open()?.last(0, 3)?;

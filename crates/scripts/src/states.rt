@@ -5,7 +5,7 @@ use std::io;
 use std::io::Write;
 
 fn unknown_syncs<W: Write>(out: &mut W) -> io::Result<()> {
-    let run = Run::start(out, b"unknown syncs, also inside a packet", 53)?;
+    let run = Run::start(out, "unknown syncs, also inside a packet", 53)?;
     let none = run
         .sync(0, 0)?
         .sync(0xFFFF, 0xFF)?
@@ -29,7 +29,7 @@ fn unknown_syncs<W: Write>(out: &mut W) -> io::Result<()> {
 fn ends<W: Write>(out: &mut W) -> io::Result<()> {
     let run = Run::start(
         out,
-        b"end of transmission with any body, also inside a packet",
+        "end of transmission with any body, also inside a packet",
         53,
     )?;
     let idle = run.sync(0x555D, 0)?.sync(0x555D, 0xFF)?.open()?.piece(0)?;
@@ -44,7 +44,7 @@ fn ends<W: Write>(out: &mut W) -> io::Result<()> {
 fn lengths<W: Write>(out: &mut W) -> io::Result<()> {
     let run = Run::start(
         out,
-        b"slots and memories of other lengths inside a packet",
+        "slots and memories of other lengths inside a packet",
         53,
     )?;
     let idle = run.cut(0, 47, 825)?.open()?.piece(0)?;
@@ -61,7 +61,7 @@ fn lengths<W: Write>(out: &mut W) -> io::Result<()> {
 fn lengths_between_parts<W: Write>(out: &mut W) -> io::Result<()> {
     let run = Run::start(
         out,
-        b"slots and memories of other lengths between the parts, with a packet",
+        "slots and memories of other lengths between the parts, with a packet",
         53,
     )?;
     run.streams(1, 0, 3)?
@@ -72,7 +72,7 @@ fn lengths_between_parts<W: Write>(out: &mut W) -> io::Result<()> {
 }
 
 fn bad_packet_state<W: Write>(out: &mut W) -> io::Result<()> {
-    let run = Run::start(out, b"a state with n over 32, and a packet", 3)?;
+    let run = Run::start(out, "a state with n over 32, and a packet", 3)?;
     let bad = run
         .state(Phase::Packet(33), 0, 0)?
         .piece(0)?
@@ -92,7 +92,7 @@ fn bad_packet_state<W: Write>(out: &mut W) -> io::Result<()> {
 }
 
 fn bad_gathering_state<W: Write>(out: &mut W) -> io::Result<()> {
-    let run = Run::start(out, b"a state with k over 5, and a packet", 3)?;
+    let run = Run::start(out, "a state with k over 5, and a packet", 3)?;
     let bad = run
         .state(Phase::Gathering(6), 0, 0x77)?
         .streams(1, 0, 1)?
@@ -111,7 +111,7 @@ fn bad_gathering_state<W: Write>(out: &mut W) -> io::Result<()> {
 fn rubbish<W: Write>(out: &mut W) -> io::Result<()> {
     let run = Run::start(
         out,
-        b"a state with rubbish beyond its parts, and a packet",
+        "a state with rubbish beyond its parts, and a packet",
         28,
     )?;
     let three = run

@@ -6,14 +6,14 @@ use std::io;
 use std::io::Write;
 
 fn stream_header<W: Write>(out: &mut W) -> io::Result<()> {
-    let run = Run::start(out, b"a stream header, also inside a packet", 27)?;
+    let run = Run::start(out, "a stream header, also inside a packet", 27)?;
     let idle = run.header(1, STREAM, 0)?.piece(0)?.open()?.piece(0)?;
     idle.header(2, STREAM, 0)?.last(1, 2)?;
     Ok(())
 }
 
 fn bad_header<W: Write>(out: &mut W) -> io::Result<()> {
-    let run = Run::start(out, b"a header with a bad CRC, also inside a packet", 27)?;
+    let run = Run::start(out, "a header with a bad CRC, also inside a packet", 27)?;
     let shut = run.header(1, PACKET, 1)?.piece(0)?.open()?.piece(0)?;
     let none = shut.header(2, PACKET, 0x80)?.last(1, 2)?.streams(1, 0, 2)?;
     none.header(1, STREAM, 1)?
@@ -26,7 +26,7 @@ fn bad_header<W: Write>(out: &mut W) -> io::Result<()> {
 fn all_zero<W: Write>(out: &mut W) -> io::Result<()> {
     let run = Run::start(
         out,
-        b"the body of all-zero fields under each sync, in a packet",
+        "the body of all-zero fields under each sync, in a packet",
         27,
     )?;
     let open = run.zeros(0x55F7)?.zeros(0x75FF)?.open()?.zeros(0x75FF)?;
@@ -35,12 +35,12 @@ fn all_zero<W: Write>(out: &mut W) -> io::Result<()> {
 }
 
 fn joined<W: Write>(out: &mut W, from: u16, to: u16) -> io::Result<()> {
-    Run::start(out, b"eleven slots of a stream", 0)?.streams(1, from, to)?;
+    Run::start(out, "eleven slots of a stream", 0)?.streams(1, from, to)?;
     Ok(())
 }
 
 fn senders_mixed<W: Write>(out: &mut W) -> io::Result<()> {
-    let run = Run::start(out, b"two senders in turn, then half and half, then one", 0)?;
+    let run = Run::start(out, "two senders in turn, then half and half, then one", 0)?;
     let turns = run
         .stream(1, 0)?
         .stream(2, 0)?
@@ -53,7 +53,7 @@ fn senders_mixed<W: Write>(out: &mut W) -> io::Result<()> {
 }
 
 fn slot_lost<W: Write>(out: &mut W) -> io::Result<()> {
-    let run = Run::start(out, b"a stream slot lost, one doubled, and six lost", 0)?;
+    let run = Run::start(out, "a stream slot lost, one doubled, and six lost", 0)?;
     let lost = run.streams(1, 0, 3)?.streams(1, 4, 12)?;
     let doubled = lost.streams(1, 12, 15)?.streams(1, 14, 18)?;
     doubled.streams(1, 18, 21)?.streams(1, 27, 30)?;
@@ -61,7 +61,7 @@ fn slot_lost<W: Write>(out: &mut W) -> io::Result<()> {
 }
 
 fn between_parts<W: Write>(out: &mut W) -> io::Result<()> {
-    let run = Run::start(out, b"other slots between the parts, with a packet", 27)?;
+    let run = Run::start(out, "other slots between the parts, with a packet", 27)?;
     let far = run
         .streams(1, 0, 3)?
         .flipped(100, 40, 7)?
@@ -77,7 +77,7 @@ fn between_parts<W: Write>(out: &mut W) -> io::Result<()> {
 fn spoiled<W: Write>(out: &mut W) -> io::Result<()> {
     let run = Run::start(
         out,
-        b"six parts whose CRC is not zero, then a packet header's parts",
+        "six parts whose CRC is not zero, then a packet header's parts",
         0,
     )?;
     let six = run.parts(slots::header(1, STREAM, 1), 0, 6)?;
@@ -88,7 +88,7 @@ fn spoiled<W: Write>(out: &mut W) -> io::Result<()> {
 fn other_counters<W: Write>(out: &mut W) -> io::Result<()> {
     let run = Run::start(
         out,
-        b"counters 6 and 7, and the five bits after a counter",
+        "counters 6 and 7, and the five bits after a counter",
         0,
     )?;
     let six = run
@@ -106,7 +106,7 @@ fn other_counters<W: Write>(out: &mut W) -> io::Result<()> {
 }
 
 fn stream_in_packet<W: Write>(out: &mut W) -> io::Result<()> {
-    let run = Run::start(out, b"stream slots inside a packet", 53)?;
+    let run = Run::start(out, "stream slots inside a packet", 53)?;
     let starts = run.open()?.piece(0)?.stream(1, 0)?.piece(1)?.stream(1, 1)?;
     starts
         .open()?
@@ -119,7 +119,7 @@ fn stream_in_packet<W: Write>(out: &mut W) -> io::Result<()> {
 }
 
 fn stream_ends<W: Write>(out: &mut W) -> io::Result<()> {
-    let run = Run::start(out, b"end marks, and the greatest frame number", 0)?;
+    let run = Run::start(out, "end marks, and the greatest frame number", 0)?;
     let h = slots::header(1, STREAM, 0);
     run.streams(1, 32760, 32765)?
         .part(h, 32765, true)?
@@ -132,12 +132,9 @@ pub fn all<W: Write>(out: &mut W) -> io::Result<()> {
     stream_header(out)?;
     bad_header(out)?;
     all_zero(out)?;
-    joined(out, 0, 11)?;
-    joined(out, 1, 12)?;
-    joined(out, 2, 13)?;
-    joined(out, 3, 14)?;
-    joined(out, 4, 15)?;
-    joined(out, 5, 16)?;
+    for from in 0..6 {
+        joined(out, from, from + 11)?;
+    }
     senders_mixed(out)?;
     slot_lost(out)?;
     between_parts(out)?;

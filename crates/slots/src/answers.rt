@@ -1,97 +1,76 @@
 // The lines that a slot's answer is said in. An error is that of a line that could not be written.
-use crate::line::Line;
-use crate::part::within;
-use crate::words;
-use protocol::StreamFrame;
-use receiver::{Answer, Late, Received};
+use crate::lines::Lines;
+use crate::words::{Header, Printable, Stream};
+use print::Hex;
+use protocol::{LsfFrame, StreamFrame};
+use receiver::{Answer, Late};
 use refusal::Refusal;
+use std::alloc::Allocator;
 use std::io;
 use std::io::Write;
 
-fn start(n: u64, kind: &[u8]) -> Line {
-    Line::new().four_digits(n).text(b" ").text(kind).text(b": ")
+// A packet's two lines, both without its two CRC bytes.
+// kept: a slot's number goes beside the lines, since the summary is a line with none.
+fn packet_lines<W: Write, A: Allocator>(
+    lines: &mut Lines<'_, W, A>,
+    n: u64,
+    total: usize,
+    memory: &[u8],
+) -> io::Result<()> {
+    let content = &memory[..total.saturating_sub(2).min(memory.len())];
+    let hex = Hex(content);
+    lines.write(format_args!("{n:04} packet: total {total}, content {hex}"))?;
+    let text = Printable(content);
+    lines.write(format_args!("{n:04} text: {text}"))
 }
 
-fn stored_line<W: Write>(out: &mut W, n: u64, piece: usize) -> io::Result<()> {
-    start(n, b"stored")
-        .text(b"piece ")
-        .decimal(piece as u64)
-        .write(out)
-}
-
-fn header_line<W: Write>(out: &mut W, n: u64, kind: &[u8], bytes: [u8; 30]) -> io::Result<()> {
-    words::header(start(n, kind), bytes).write(out)
-}
-
-// How long a packet is without its two CRC bytes.
-fn without_crc(total: usize) -> usize {
-    if total < 2 {
-        return 0;
-    }
-    total - 2
-}
-
-fn packet_lines<W: Write>(out: &mut W, n: u64, total: usize, memory: &[u8]) -> io::Result<()> {
-    let len = within(without_crc(total), memory);
-    let content = &memory[..len];
-    let line = start(n, b"packet").text(b"total ").decimal(total as u64);
-    line.text(b", content ").hex(content).write(out)?;
-    start(n, b"text").printable(content).write(out)
-}
-
-fn late_line<W: Write>(out: &mut W, n: u64, late: Late, header: [u8; 30]) -> io::Result<()> {
-    match late {
-        Late::Nothing => Ok(()),
-        Late::Header => header_line(out, n, b"late", header),
-        Late::Spoiled => start(n, b"spoiled")
-            .text(b"late header CRC not zero")
-            .write(out),
-    }
-}
-
-fn stream_lines<W: Write>(
-    out: &mut W,
+// A line for the frame, and one where it is the sixth of six parts.
+fn stream_lines<W: Write, A: Allocator>(
+    lines: &mut Lines<'_, W, A>,
     n: u64,
     frame: StreamFrame,
     late: Late,
-    header: [u8; 30],
 ) -> io::Result<()> {
-    words::stream(start(n, b"stream"), frame).write(out)?;
-    late_line(out, n, late, header)
+    let fields = Stream(frame);
+    lines.write(format_args!("{n:04} stream: {fields}"))?;
+    match late {
+        Late::Nothing => Ok(()),
+        Late::Header(bytes) => {
+            let fields = Header(LsfFrame { bytes });
+            lines.write(format_args!("{n:04} late: {fields}"))
+        }
+        Late::Spoiled => lines.write(format_args!("{n:04} spoiled: late header CRC not zero")),
+    }
 }
 
-fn end_line<W: Write>(out: &mut W, n: u64) -> io::Result<()> {
-    start(n, b"end").text(b"of transmission").write(out)
-}
-
-fn refused_line<W: Write>(out: &mut W, n: u64, why: Refusal) -> io::Result<()> {
-    let number = refusal::number(why) as u64;
-    let line = Line::new()
-        .four_digits(n)
-        .text(b" refused ")
-        .decimal(number)
-        .text(b": ");
-    words::meaning(line, why).write(out)
-}
-
-pub fn rest_line<W: Write>(out: &mut W, n: u64, bytes: usize) -> io::Result<()> {
-    start(n, b"rest")
-        .text(b"bytes ")
-        .decimal(bytes as u64)
-        .write(out)
+// The line of what is left at the end, where that is no whole slot.
+pub fn rest_line<W: Write, A: Allocator>(
+    lines: &mut Lines<'_, W, A>,
+    n: u64,
+    bytes: usize,
+) -> io::Result<()> {
+    lines.write(format_args!("{n:04} rest: bytes {bytes}"))
 }
 
 // The lines of slot n.
-pub fn say<W: Write>(out: &mut W, n: u64, got: Received, memory: &[u8]) -> io::Result<()> {
-    let header = got.header;
-    let frame = got.stream;
-    let answer = got.answer;
+pub fn say<W: Write, A: Allocator>(
+    lines: &mut Lines<'_, W, A>,
+    n: u64,
+    answer: Result<Answer, Refusal>,
+    memory: &[u8],
+) -> io::Result<()> {
     match answer {
-        Answer::Header => header_line(out, n, b"header", header),
-        Answer::Stored(piece) => stored_line(out, n, piece),
-        Answer::Packet(total) => packet_lines(out, n, total, memory),
-        Answer::Stream(late) => stream_lines(out, n, frame, late, header),
-        Answer::Ended => end_line(out, n),
-        Answer::Refused(why) => refused_line(out, n, why),
+        Ok(Answer::Header(bytes)) => {
+            let fields = Header(LsfFrame { bytes });
+            lines.write(format_args!("{n:04} header: {fields}"))
+        }
+        Ok(Answer::Stored(piece)) => lines.write(format_args!("{n:04} stored: piece {piece}")),
+        Ok(Answer::Packet(total)) => packet_lines(lines, n, total, memory),
+        Ok(Answer::Stream(frame, late)) => stream_lines(lines, n, frame, late),
+        Ok(Answer::Ended) => lines.write(format_args!("{n:04} end: of transmission")),
+        Err(why) => {
+            let number = u8::from(why);
+            lines.write(format_args!("{n:04} refused {number}: {why}"))
+        }
     }
 }

@@ -28,12 +28,12 @@
 #![tactic(auto)]
 
 mod answers;
-mod line;
-mod part;
+mod lines;
 mod recording;
 mod tally;
 mod words;
 
+use lines::Lines;
 use recording::{Failure, read_recording};
 use std::env::{Env, FillError};
 use std::io::Read;
@@ -42,13 +42,14 @@ use std::rt::Runtime;
 use std::{fs, io, str};
 
 // Says on standard error what failed and why.
+// kept: `replay` has the same: shared, it would be a public function that promises nothing.
 fn fail(rt: &impl Runtime, what: &str, why: io::Error) -> ExitCode {
     let _ = eprintln!(rt; "{what}: {why}");
     ExitCode::FAILURE
 }
 
 fn read_input<I: Read>(rt: &impl Runtime, input: &mut I, name: &str) -> ExitCode {
-    match read_recording(input, &mut io::writer(rt)) {
+    match read_recording(input, &mut Lines::new(rt.alloc(), &mut io::writer(rt))) {
         Ok(()) => ExitCode::SUCCESS,
         Err(Failure::Input(why)) => fail(rt, name, why),
         Err(Failure::Output(why)) => fail(rt, "standard output", why),

@@ -1,7 +1,9 @@
 // A recording, read slot by slot to its end.
 use crate::answers::{rest_line, say};
+use crate::lines::Lines;
 use crate::tally::Tally;
 use receiver::Receiver;
+use std::alloc::Allocator;
 use std::io;
 use std::io::{Read, Write};
 
@@ -12,126 +14,54 @@ pub enum Failure {
     Output(io::Error),
 }
 
-// What reading one slot came to.
-#[derive(Drop)]
-enum Filled {
-    Whole,
-    // So many bytes before the end.
-    Short(usize),
-    Failed(io::Error),
-}
-
-// Where the reading of a recording stands.
-#[derive(Drop)]
-struct Progress {
-    receiver: Receiver,
-    tally: Tally,
-    going: bool,
-}
-
-// Reads until the slot is full, the input ends or a read fails. Each turn brings a byte or more.
-fn fill<R: Read>(input: &mut R, slot: &mut [u8]) -> Filled {
+// Reads until the slot is full, the input ends or a read fails. Gives how many bytes there were. Each turn brings a byte or more.
+// kept: `read_exact` does not say how many bytes there were before the end, and reads again where it was interrupted.
+fn fill<R: Read>(input: &mut R, slot: &mut [u8]) -> io::Result<usize> {
     let mut done = 0;
-    for turn in 0..slot.len() {
-        match input.read(&mut slot[done..]) {
-            Err(why) => return Filled::Failed(why),
-            Ok(0) => return Filled::Short(done),
-            Ok(got) => done += got,
+    for _ in 0..slot.len() {
+        match input.read(&mut slot[done..])? {
+            0 => break,
+            got => done += got,
         }
         if done == slot.len() {
-            return Filled::Whole;
+            break;
         }
     }
-    Filled::Short(done)
+    Ok(done)
 }
 
 // The lines at the end of a recording, after so many bytes that are no slot.
-fn last_lines<W: Write>(out: &mut W, tally: Tally, bytes: usize) -> io::Result<()> {
+fn last_lines<W: Write, A: Allocator>(
+    lines: &mut Lines<'_, W, A>,
+    tally: Tally,
+    bytes: usize,
+) -> io::Result<()> {
+    let mut after = tally;
     if 0 < bytes {
-        rest_line(out, tally.with_slot().slots(), bytes)?;
+        rest_line(lines, after.next_slot(), bytes)?;
     }
-    tally.summary().write(out)
+    lines.write(tally)
 }
 
-impl Progress {
-    fn new() -> Progress {
-        Progress {
-            receiver: Receiver::new(),
-            tally: Tally::new(),
-            going: true,
-        }
-    }
-
-    fn stopped(mut self) -> Progress {
-        self.going = false;
-        self
-    }
-
-    // A line that does not go out whole ends the reading.
-    fn written(self, said: io::Result<()>) -> Result<Progress, Failure> {
-        match said {
-            Ok(()) => Ok(self),
-            Err(why) => Err(Failure::Output(why)),
-        }
-    }
-
-    fn with_slot<W: Write>(
-        self,
-        out: &mut W,
-        slot: &[u8],
-        memory: &mut [u8],
-    ) -> Result<Progress, Failure> {
-        let receiver = self.receiver;
-        let got = receiver.receive(slot, memory);
-        let answer = got.answer;
-        let receiver = got.next;
-        let tally = self.tally.with_slot().with_answer(answer);
-        let progress = Progress {
-            receiver,
-            tally,
-            going: true,
-        };
-        progress.written(say(out, tally.slots(), got, memory))
-    }
-
-    fn ended<W: Write>(self, out: &mut W, bytes: usize) -> Result<Progress, Failure> {
-        let tally = self.tally;
-        Ok(self.written(last_lines(out, tally, bytes))?.stopped())
-    }
-
-    fn turn<R: Read, W: Write>(
-        self,
-        input: &mut R,
-        out: &mut W,
-        memory: &mut [u8],
-    ) -> Result<Progress, Failure> {
-        let mut slot = [0u8; 48];
-        let filled = fill(input, &mut slot);
-        match filled {
-            Filled::Whole => self.with_slot(out, &slot, memory),
-            Filled::Short(n) => self.ended(out, n),
-            Filled::Failed(why) => Err(Failure::Input(why)),
-        }
-    }
-}
-
-// A proved loop has to end, and nothing says that a recording does: the turns are counted down from a number that no run uses up.
-fn read_all<R: Read, W: Write>(
+// kept: a proved loop has to end, and nothing says that a recording does: no run uses up the turns.
+pub fn read_recording<R: Read, W: Write, A: Allocator>(
     input: &mut R,
-    out: &mut W,
-    memory: &mut [u8],
+    lines: &mut Lines<'_, W, A>,
 ) -> Result<(), Failure> {
-    let mut progress = Progress::new();
-    let mut turns = u64::MAX;
-    while 0 < turns && progress.going {
-        let next = progress.turn(input, out, memory)?;
-        progress = next;
-        turns -= 1;
+    let mut receiver = Receiver::new();
+    let mut memory = [0u8; 825];
+    let mut tally = Tally::new();
+    for _ in 0..u64::MAX {
+        let mut slot = [0u8; 48];
+        let bytes = fill(input, &mut slot).map_err(Failure::Input)?;
+        if bytes < slot.len() {
+            return last_lines(lines, tally, bytes).map_err(Failure::Output);
+        }
+        let got = receiver.receive(&slot, &mut memory);
+        receiver = got.next;
+        let n = tally.next_slot();
+        tally.count(got.answer);
+        say(lines, n, got.answer, &memory).map_err(Failure::Output)?;
     }
     Ok(())
-}
-
-pub fn read_recording<R: Read, W: Write>(input: &mut R, out: &mut W) -> Result<(), Failure> {
-    let mut memory = [0u8; 825];
-    read_all(input, out, &mut memory)
 }

@@ -1,9 +1,10 @@
 // How many slots of each kind there were.
-use crate::line::Line;
 use receiver::{Answer, Late};
 use refusal::Refusal;
+use std::fmt;
+use std::fmt::Display;
 
-// Place n of `refused` counts the refusals of number n.
+// Place n of `refused` counts the refusals of number n. kept: a refusal's number is its place. No recording is so long that a count comes round to 0.
 #[derive(Clone, Copy)]
 pub struct Tally {
     slots: u64,
@@ -13,36 +14,9 @@ pub struct Tally {
     refused: [u64; 16],
 }
 
-// No recording is so long that a count comes round to 0.
-fn more(n: u64) -> u64 {
-    std::num::wrapping_add_u64(n, 1)
-}
-
-fn one_more(counts: [u64; 16], why: Refusal) -> [u64; 16] {
-    let n = (refusal::number(why) % 16) as usize;
-    let mut c = counts;
-    c[n] = more(c[n]);
-    c
-}
-
-// A refusal that did not come has no field.
-fn refused_field(line: Line, n: u64, count: u64) -> Line {
-    if count == 0 {
-        return line;
-    }
-    line.text(b", refused-")
-        .decimal(n)
-        .text(b" ")
-        .decimal(count)
-}
-
-fn refused_fields(before: Line, counts: [u64; 16]) -> Line {
-    let mut line = before;
-    for n in 0..16usize {
-        let next = refused_field(line, n as u64, counts[n]);
-        line = next;
-    }
-    line
+// kept: one line, as in `replay`.
+fn count(n: &mut u64) {
+    *n = n.wrapping_add(1);
 }
 
 impl Tally {
@@ -52,66 +26,47 @@ impl Tally {
             headers: 0,
             packets: 0,
             late: 0,
-            refused: [0u64; 16],
+            refused: [0; 16],
         }
     }
 
-    pub fn slots(self) -> u64 {
+    // One slot more, and its number.
+    pub fn next_slot(&mut self) -> u64 {
+        count(&mut self.slots);
         self.slots
     }
 
-    // One slot more.
-    pub fn with_slot(mut self) -> Tally {
-        self.slots = more(self.slots);
-        self
-    }
-
-    fn with_late(mut self, late: Late) -> Tally {
-        match late {
-            Late::Nothing => self,
-            Late::Spoiled => self,
-            Late::Header => {
-                self.late = more(self.late);
-                self
-            }
-        }
-    }
-
     // The answer to a slot, counted.
-    pub fn with_answer(mut self, answer: Answer) -> Tally {
+    pub fn count(&mut self, answer: Result<Answer, Refusal>) {
         match answer {
-            Answer::Header => {
-                self.headers = more(self.headers);
-                self
-            }
-            Answer::Stored(_) => self,
-            Answer::Packet(_) => {
-                self.packets = more(self.packets);
-                self
-            }
-            Answer::Stream(late) => self.with_late(late),
-            Answer::Ended => self,
-            Answer::Refused(why) => {
-                let counts = self.refused;
-                let c = one_more(counts, why);
-                self.refused = c;
-                self
-            }
+            Ok(Answer::Header(_)) => count(&mut self.headers),
+            Ok(Answer::Packet(_)) => count(&mut self.packets),
+            Ok(Answer::Stream(_, Late::Header(_))) => count(&mut self.late),
+            Ok(_) => {}
+            Err(why) => count(&mut self.refused[usize::from(u8::from(why) % 16)]),
         }
     }
+}
 
-    // The counts, and those of the refusals that came.
-    pub fn summary(self) -> Line {
-        let counts = self.refused;
-        let line = Line::new()
-            .text(b"summary: slots ")
-            .decimal(self.slots)
-            .text(b", headers ")
-            .decimal(self.headers)
-            .text(b", packets ")
-            .decimal(self.packets)
-            .text(b", late ")
-            .decimal(self.late);
-        refused_fields(line, counts)
+// The counts, and those of the refusals that came.
+impl Display for Tally {
+    fn fmt<W: fmt::Write>(&self, f: &mut fmt::Formatter<W>) -> fmt::Result {
+        let Tally {
+            slots,
+            headers,
+            packets,
+            late,
+            refused,
+        } = *self;
+        write!(
+            f,
+            "summary: slots {slots}, headers {headers}, packets {packets}, late {late}"
+        )?;
+        for (number, count) in refused.iter().enumerate() {
+            if *count != 0 {
+                write!(f, ", refused-{number} {count}")?;
+            }
+        }
+        Ok(())
     }
 }

@@ -1,110 +1,84 @@
 // What the receiver's answers are called.
-use crate::line::Line;
-use address::{Address, Heard, Reading};
-use protocol::{DataType, EncryptionType, LsfFrame, Mode, StreamFrame};
-use refusal::Refusal;
+use address::{Address, Reading};
+use print::Hex;
+use protocol::{LsfFrame, StreamFrame};
+use std::fmt;
+use std::fmt::Display;
 
-pub fn meaning(line: Line, why: Refusal) -> Line {
-    match why {
-        Refusal::WrongLength => line.text(b"buffer of another length"),
-        Refusal::OutOfRange => line.text(b"field out of range"),
-        Refusal::TooFar => line.text(b"nearest word over six bits off"),
-        Refusal::BadGolay => line.text(b"Golay word over three bits off"),
-        Refusal::BadHeader => line.text(b"header CRC not zero"),
-        Refusal::BadAddress => line.text(b"no such address"),
-        Refusal::UnknownSync => line.text(b"sync none of the four"),
-        Refusal::OutOfTurn => line.text(b"packet slot out of turn or no packet open"),
-        Refusal::BadFinal => line.text(b"final length 0 or over 25"),
-        Refusal::TooShort => line.text(b"packet under three bytes"),
-        Refusal::BadPacket => line.text(b"packet CRC not zero"),
-        Refusal::BadState => line.text(b"state out of range"),
-        Refusal::BadSample => line.text(b"sample not finite or too large"),
-        Refusal::Ended => line.text(b"call after the end"),
-        Refusal::Full => line.text(b"no room for one more"),
+// Bytes as text, with a dot for what is not printable ASCII.
+#[derive(Clone, Copy)]
+pub struct Printable<'a>(pub &'a [u8]);
+
+impl Display for Printable<'_> {
+    fn fmt<W: fmt::Write>(&self, f: &mut fmt::Formatter<W>) -> fmt::Result {
+        for byte in self.0 {
+            let shown = match *byte {
+                b' '..=b'~' => char::from(*byte),
+                _ => '.',
+            };
+            f.write_char(shown)?;
+        }
+        Ok(())
     }
 }
 
-fn whose(line: Line, a: Address, callsign: [u8; 9]) -> Line {
-    match a {
-        Address::Invalid => line.text(b"invalid"),
-        Address::Callsign => line.text(b"callsign ").trimmed(&callsign),
-        Address::Reserved(value) => line.text(b"reserved ").twelve_digits(value),
-        Address::Broadcast => line.text(b"broadcast"),
-    }
+// A callsign without the spaces at its end.
+fn trimmed(callsign: &[u8; 9]) -> &[u8] {
+    callsign.trim_ascii_end()
 }
 
-fn address_read(line: Line, read: Reading) -> Line {
-    let callsign = read.callsign;
-    let answer = read.answer;
-    match answer {
-        Heard::Read(a) => whose(line, a, callsign),
-        Heard::Refused(why) => meaning(line, why),
-    }
-}
+// An address that was read. kept: `readings` shows one otherwise, a callsign whole and in brackets.
+#[derive(Clone, Copy)]
+struct Whose(Reading);
 
-fn mode(line: Line, m: Mode) -> Line {
-    match m {
-        Mode::Packet => line.text(b"packet"),
-        Mode::Stream => line.text(b"stream"),
+impl Display for Whose {
+    fn fmt<W: fmt::Write>(&self, f: &mut fmt::Formatter<W>) -> fmt::Result {
+        let read = self.0;
+        match read.address {
+            Address::Invalid => write!(f, "invalid"),
+            Address::Callsign => write!(f, "callsign {}", Printable(trimmed(&read.callsign))),
+            Address::Reserved(value) => write!(f, "reserved {value:012x}"),
+            Address::Broadcast => write!(f, "broadcast"),
+        }
     }
-}
-
-fn data_type(line: Line, t: DataType) -> Line {
-    match t {
-        DataType::Reserved => line.text(b"reserved"),
-        DataType::Data => line.text(b"data"),
-        DataType::Voice => line.text(b"voice"),
-        DataType::VoiceAndData => line.text(b"voice+data"),
-    }
-}
-
-fn encryption(line: Line, t: EncryptionType) -> Line {
-    match t {
-        EncryptionType::None => line.text(b"none"),
-        EncryptionType::Scrambler => line.text(b"scrambler"),
-        EncryptionType::Aes => line.text(b"aes"),
-        EncryptionType::Other => line.text(b"other"),
-    }
-}
-
-fn yes_or_no(line: Line, b: bool) -> Line {
-    if b {
-        return line.text(b"yes");
-    }
-    line.text(b"no")
-}
-
-fn wide(x: u8) -> u64 {
-    x as u64
 }
 
 // A header's fields.
-pub fn header(line: Line, bytes: [u8; 30]) -> Line {
-    let frame = LsfFrame { bytes };
-    let line = address_read(line.text(b"destination "), frame.destination());
-    let line = address_read(line.text(b", source "), frame.source());
-    let line = mode(line.text(b", mode "), frame.mode());
-    let line = data_type(line.text(b", datatype "), frame.data_type());
-    let line = encryption(line.text(b", encryption "), frame.encryption_type());
-    let channel = wide(frame.channel_access_number());
-    let meta = frame.meta();
-    line.text(b", channel ")
-        .decimal(channel)
-        .text(b", meta ")
-        .hex(&meta)
-}
+#[derive(Clone, Copy)]
+pub struct Header(pub LsfFrame);
 
-fn stream_data(line: Line, bytes: [u8; 16]) -> Line {
-    line.hex(&bytes)
+impl Display for Header {
+    fn fmt<W: fmt::Write>(&self, f: &mut fmt::Formatter<W>) -> fmt::Result {
+        let frame = self.0;
+        let destination = Whose(frame.destination());
+        let source = Whose(frame.source());
+        write!(f, "destination {destination}, source {source}")?;
+        let mode = frame.mode();
+        let data_type = frame.data_type();
+        let encryption = frame.encryption_type();
+        write!(
+            f,
+            ", mode {mode}, datatype {data_type}, encryption {encryption}"
+        )?;
+        let channel = frame.channel_access_number();
+        let meta = Hex(frame.meta());
+        write!(f, ", channel {channel}, meta {meta}")
+    }
 }
 
 // A stream frame's fields.
-pub fn stream(line: Line, frame: StreamFrame) -> Line {
-    let part = frame.lich_part;
-    let line = line.text(b"counter ").decimal(wide(frame.lich_idx));
-    let line = line.text(b", part ").hex(&part);
-    let line = line.text(b", frame ").decimal(frame.frame_number as u64);
-    let line = yes_or_no(line.text(b", end "), frame.end_of_stream);
-    let sixteen = frame.stream_data;
-    stream_data(line.text(b", data "), sixteen)
+#[derive(Clone, Copy)]
+pub struct Stream(pub StreamFrame);
+
+impl Display for Stream {
+    fn fmt<W: fmt::Write>(&self, f: &mut fmt::Formatter<W>) -> fmt::Result {
+        let frame = self.0;
+        let counter = frame.lich_idx;
+        let part = Hex(&frame.lich_part);
+        write!(f, "counter {counter}, part {part}")?;
+        let number = frame.frame_number;
+        let end = if frame.end_of_stream { "yes" } else { "no" };
+        let content = Hex(&frame.stream_data);
+        write!(f, ", frame {number}, end {end}, data {content}")
+    }
 }

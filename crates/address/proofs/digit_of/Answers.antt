@@ -1,57 +1,33 @@
--- `address::digit_of` meets its contract. The loop's invariant: the byte's place is as far on as the search has come. Assumes nothing.
-use mathlib.Core.Path.{◌≡◌, sym, ap, ap₂}
-use mathlib.Core.List.{List}
-use Prim.Native.Nat.{ℕ, suc, ◌+◌, ◌≤◌, ◌<◌}
-use native.Mathlib.Numerals.{add-one}
-use native.Mathlib.Omega.{arith}
-use lib.ListN.{length, get_or, drop}
-use Rattle.address.specs.Callsign.{alphabet, place_in, digit_of, upper}
-use Rattle.address.proofs.Alphabet.{place_le, place_here, place_further}
+-- `address::digit_of` meets its contract: std's search finds the place, if any. Assumes nothing.
+use Rattle.std.proofs.Common.{◌≡◌, ℕ, List, Some, None, cond, eqb, ltb, length, sym, ap, ap₂, ◌∙◌, rules, tests}
+use Rattle.std.specs.List.{position_or_len}
+use Rattle.std.proofs.lemmas.Iterator.{YieldsList-from_slice}
+use Rattle.std.proofs.lemmas.Iterator.Search.{position_from_yields_List}
+use Rattle.address.specs.Callsign.{alphabet, digit_of, upper}
+use Rattle.address.proofs.Alphabet.{place_position, std_upper}
 use Rattle.address.proofs.digit_of.Goals as goal
 
-module _ (l : List ℕ) (c byte pos : ℕ) (table : l ≡ alphabet) (folded : c ≡ upper byte) (so_far : place_in l c ≡ pos + place_in (drop pos l) c) where
-  is_digit : place_in l c ≡ digit_of byte
-  unfolding digit_of
-  is_digit = ap₂ place_in table folded
+-- std's search in the table
+found : (table : List ℕ) (c byte : ℕ) → table ≡ alphabet → c ≡ upper byte
+    → cond (ltb (position_or_len (λ x. eqb x c) table) (length table)) (Some (position_or_len (λ x. eqb x c) table)) None
+    ≡ cond (ltb (digit_of byte) 40) (Some (digit_of byte)) None
+unfolding digit_of alphabet
+found table c byte t e =
+    ap₂ (λ (l : List ℕ) (x : ℕ). cond (ltb (position_or_len (λ y. eqb y x) l) (length l)) (Some (position_or_len (λ y. eqb y x) l)) None) t e
+    ∙ ap (λ (n : ℕ). cond (ltb n 40) (Some n) None) (sym (place_position alphabet (upper byte)))
 
-  long : length l ≡ 40
-  unfolding alphabet
-  long = ap length table
-
-  found : pos < 40 → get_or l pos 0 ≡ c → pos ≡ digit_of byte
-  found h e = omega (arith, is_digit, place_here l c pos (omega (arith, long)) e)
-
-  passed : pos < 40 → (get_or l pos 0 ≡ c → ⊥) → place_in l c ≡ pos + 1 + place_in (drop (pos + 1) l) c
-  passed h n =
-      let next : place_in (drop (suc pos) l) c ≡ place_in (drop (pos + 1) l) c = ap (λ (k : ℕ). place_in (drop k l) c) (sym (add-one pos)) in
-      omega (arith, place_further l c pos (omega (arith, long)) n)
-
-  missed : 40 ≤ pos → 40 ≡ digit_of byte
-  missed h = omega (arith, is_digit, long, place_le l c)
-
-pub returns-then-alphabet-pos : goal.returns-then-alphabet-pos
-returns-then-alphabet-pos c =
-    let l = c in
-    let p = l in (
-      found p.characters-alphabet.result l.to_upper-c.result p.args.byte l.loop-pos.pos p.characters-alphabet.ensures
-          l.to_upper-c.ensures l.loop-pos.invariant.1 (omega arith) c.if-alphabet-pos.true,
-      omega arith,
-    )
-
-pub loop-pos-preserved : goal.loop-pos-preserved
-loop-pos-preserved c =
-    let l = c in
-    let p = l in (
-      omega arith,
-      passed p.characters-alphabet.result l.to_upper-c.result p.args.byte l.loop-pos.pos p.characters-alphabet.ensures
-          l.to_upper-c.ensures l.loop-pos.invariant.1 (omega arith) c.if-alphabet-pos.false,
-    )
+pub returns-in_err-place : goal.returns-in_err-place
+returns-in_err-place c =
+    c.from_residual.ensures ∙ sym c.in_err-place.was
+    ∙ position_from_yields_List (λ x. eqb x c.to_ascii_uppercase-c.result) _ _ _ c.position.ensures.ran
+    (YieldsList-from_slice c.characters.result (search rules)) (λ x b q k. search (rules, tests))
+    ∙ found c.characters.result c.to_ascii_uppercase-c.result c.args.byte c.characters.ensures
+    (c.to_ascii_uppercase-c.ensures.value ∙ std_upper c.args.byte)
 
 pub returns : goal.returns
 returns c =
-    let l = c in
-    let p = l in (
-      missed p.characters-alphabet.result l.to_upper-c.result p.args.byte l.loop-pos.pos p.characters-alphabet.ensures
-          l.to_upper-c.ensures l.loop-pos.invariant.1 (omega arith),
-      omega arith,
-    )
+    sym c.in_ok-place.was
+    ∙ position_from_yields_List (λ x. eqb x c.to_ascii_uppercase-c.result) _ _ _ c.position.ensures.ran
+    (YieldsList-from_slice c.characters.result (search rules)) (λ x b q k. search (rules, tests))
+    ∙ found c.characters.result c.to_ascii_uppercase-c.result c.args.byte c.characters.ensures
+    (c.to_ascii_uppercase-c.ensures.value ∙ std_upper c.args.byte)

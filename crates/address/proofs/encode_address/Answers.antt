@@ -1,75 +1,40 @@
--- `address::encode_address` meets its contract: one return for each kind of address, and one for each refusal. Assumes nothing.
-use mathlib.Core.Path.{◌≡◌, refl, sym, ap, ◌∙◌}
-use mathlib.Core.Bool.{true, false}
-use mathlib.Core.List.{List}
-use Prim.Native.Nat.{ℕ}
-use native.Mathlib.Omega.{arith}
-use lib.ListN.{length}
+-- `address::encode_address` meets its contract. Assumes nothing.
+use Rattle.std.proofs.Common.{◌≡◌, Bool, true, false, ℕ, List, cond, Ok, Err, refl, sym, ap, ◌∙◌, length}
+use Rattle.std.proofs.lemmas.Result.{err_from_is_err_and}
+use Rattle.refusal.specs.declared.Refusal.{Refusal}
 use Rattle.refusal.specs.declared.Refusal.TheVariants.{BadAddress}
 use Rattle.address.specs.declared.Address.{Address}
-use Rattle.address.specs.declared.Address.TheVariants.{Invalid, Callsign, Reserved, Broadcast}
-use Rattle.address.specs.Address.{address_value, writable, written, unwritten, encoded_of}
-use Rattle.address.proofs.EachKind.{write_short, write_good, write_bad, callsign_none, callsign_some, reserved_low, reserved_high, reserved_good}
+use Rattle.address.specs.Address.{address_value, writable, encoded_of}
+use Rattle.address.proofs.EachKind.{write_short, write_good, write_bad}
+use Rattle.laws.specs.Value.{in_bytes}
 use Rattle.address.proofs.encode_address.Goals as goal
 
-module _ (a b : Address) (s : List ℕ) (is : a ≡ b) (nine : length s ≡ 9) where
-  good : writable b s ≡ true → written (address_value b s) ≡ encoded_of a s
-  good w = sym (ap (λ (x : Address). encoded_of x s) is ∙ write_good b s nine w)
+-- the value to write or the refusal, as the bytes
+module _ (a : Address) (s : List ℕ) (nine : length s ≡ 9) where
+  refused : (why : Refusal) → Err why ≡ cond (writable a s) (Ok (address_value a s)) (Err BadAddress) → encoded_of a s ≡ Err why
+  refused why = go (writable a s) refl
+    where
+      go : (b : Bool) → writable a s ≡ b → Err why ≡ cond b (Ok (address_value a s)) (Err BadAddress) → encoded_of a s ≡ Err why
+      go true w e = cc
+      go false w e = let is : BadAddress ≡ why = cc in write_bad a s nine w ∙ ap Err is
 
-  bad : writable b s ≡ false → unwritten BadAddress ≡ encoded_of a s
-  bad w = sym (ap (λ (x : Address). encoded_of x s) is ∙ write_bad b s nine w)
+  written : (value : ℕ) → Ok value ≡ cond (writable a s) (Ok (address_value a s)) (Err BadAddress) → encoded_of a s ≡ Ok (in_bytes 6 value)
+  written value = go (writable a s) refl
+    where
+      go : (b : Bool) → writable a s ≡ b → Ok value ≡ cond b (Ok (address_value a s)) (Err BadAddress) → encoded_of a s ≡ Ok (in_bytes 6 value)
+      go true w e = let is : address_value a s ≡ value = cc in write_good a s nine w ∙ ap (λ (v : ℕ). Ok (in_bytes 6 v)) is
+      go false w e = cc
 
-pub returns-then-callsign-ne9 : goal.returns-then-callsign-ne9
-returns-then-callsign-ne9 c = c.refused.ensures ∙ sym (write_short c.args.address c.args.callsign.now c.if-callsign-ne9.true)
+pub returns-then-station-ne9 : goal.returns-then-station-ne9
+returns-then-station-ne9 c = sym (write_short c.args.station.address c.args.station.callsign.now c.if-station-ne9.true)
 
-pub returns-then-value-eq0 : goal.returns-then-value-eq0
-returns-then-value-eq0 c =
-    let e = c in
-    let a = e.args in
-    c.refused-then-value-eq0.ensures
-    ∙ bad a.address Callsign a.callsign.now e.in-Callsign.is e.if-callsign-ne9.false
-    (callsign_none a.callsign.now (omega arith))
+pub returns-in_err-value_to_write : goal.returns-in_err-value_to_write
+returns-in_err-value_to_write c =
+    let p = err_from_is_err_and c.from_residual.result c.from_residual.ensures.1 in
+    p.1 ∙ ap Err p.2
+    ∙ sym (refused c.args.station.address c.args.station.callsign.now c.if-station-ne9.false c.in_err-value_to_write.field-0.0 c.in_err-value_to_write.ensures.value)
 
-pub returns-then-value-lt262144000000000 : goal.returns-then-value-lt262144000000000
-returns-then-value-lt262144000000000 c =
-    let e = c in
-    let a = e.args in
-    c.refused-then-value-lt262144000000000.ensures
-    ∙ bad a.address (Reserved _) a.callsign.now e.in-Reserved.is e.if-callsign-ne9.false
-    (reserved_low _ a.callsign.now c.if-value-lt262144000000000.true)
-
-pub returns-then-value-gt281474976710654 : goal.returns-then-value-gt281474976710654
-returns-then-value-gt281474976710654 c =
-    let e = c in
-    let a = e.args in
-    c.refused-then-value-gt281474976710654.ensures
-    ∙ bad a.address (Reserved _) a.callsign.now e.in-Reserved.is e.if-callsign-ne9.false
-    (reserved_high _ a.callsign.now c.if-value-lt262144000000000.false c.if-value-gt281474976710654.true)
-
-pub returns-in-Invalid : goal.returns-in-Invalid
-returns-in-Invalid c =
-    let e = c in
-    let a = e.args in
-    c.wrote.ensures ∙ good a.address Invalid a.callsign.now e.in-Invalid.is e.if-callsign-ne9.false refl
-
-pub returns-else-value-eq0 : goal.returns-else-value-eq0
-returns-else-value-eq0 c =
-    let e = c in
-    let a = e.args in
-    let some = callsign_some a.callsign.now (λ q. omega arith) in
-    c.wrote-in-Callsign.ensures ∙ ap written (e.encode_base_40-value.ensures.0 ∙ some.1)
-    ∙ good a.address Callsign a.callsign.now e.in-Callsign.is e.if-callsign-ne9.false some.0
-
-pub returns-else-value-gt281474976710654 : goal.returns-else-value-gt281474976710654
-returns-else-value-gt281474976710654 c =
-    let e = c in
-    let a = e.args in
-    c.wrote-in-Reserved.ensures
-    ∙ good a.address (Reserved _) a.callsign.now e.in-Reserved.is e.if-callsign-ne9.false
-    (reserved_good _ a.callsign.now c.if-value-lt262144000000000.false c.if-value-gt281474976710654.false)
-
-pub returns-in-Broadcast : goal.returns-in-Broadcast
-returns-in-Broadcast c =
-    let e = c in
-    let a = e.args in
-    c.wrote-in-Broadcast.ensures ∙ good a.address Broadcast a.callsign.now e.in-Broadcast.is e.if-callsign-ne9.false refl
+pub returns : goal.returns
+returns c =
+    ap Ok c.bytes_of.ensures
+    ∙ sym (written c.args.station.address c.args.station.callsign.now c.if-station-ne9.false c.in_ok-value_to_write.field-0 c.in_ok-value_to_write.ensures.value)

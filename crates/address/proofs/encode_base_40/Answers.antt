@@ -1,71 +1,112 @@
--- `address::encode_base_40` meets its contract. The loop's invariant: the characters from `pos` on are known, and `value` is their number.
--- Assumes nothing.
-use mathlib.Core.Path.{◌≡◌, sym, ap, ◌∙◌}
-use mathlib.Core.Bool.{true, cond}
-use mathlib.Core.List.{List, []}
-use Prim.Native.Nat.{ℕ, zero, suc, ◌+◌, ◌-◌, ◌*◌, ◌^◌, ◌≤◌, ◌<◌}
-use native.Mathlib.Omega.{arith}
-use lib.ListN.{length, get_or, drop, length-drop, drop_of_length-le}
+-- `address::encode_base_40` meets its contract. Assumes nothing.
+use Rattle.std.proofs.Common.{◌≡◌, ℕ, ◌+◌, ◌-◌, ◌*◌, ◌^◌, ◌≤◌, ◌<◌, true, false, Bool, cond, ltb, List, [], ◌∷◌, ◌++◌, Option, Some, None, length, map, reverse, get_or, refl, sym, ap, ◌∙◌, arith, rules}
+use Rattle.std.proofs.lemmas.List.{map-append, reverse-append, reverse-reverse, length-reverse, length-map, get_or-reverse}
+use Rattle.std.proofs.lemmas.Grind.{get_or_default_zero}
+use Rattle.std.proofs.lemmas.Iterator.Adapters.{YieldsList-from_rev_slice}
+use Rattle.std.proofs.lemmas.Iterator.Consumers.{YieldsList-turn, YieldsList-end}
+use borrow.Author.Tests.{ltb-true, ltb-false}
+use denote.Ref.{Bor}
 use Rattle.address.specs.Callsign.{digit_of, known, callsign_value}
-use Rattle.address.proofs.Number.{known_more, unknown_at, number_lt, drop_before}
+use Rattle.address.proofs.Number.{known_more, unknown_at, number_lt}
+use Rattle.address.proofs.EachKind.{callsign_good, callsign_spaces, callsign_foreign}
 use Rattle.address.proofs.encode_base_40.Goals as goal
 
-module _ (s : List ℕ) (pos digit : ℕ) (more : 0 < pos) (inside : pos ≤ length s) (byte : digit ≡ digit_of (get_or s (pos - 1) 0)) where
-  known-turn : digit < 40 → known (drop pos s) ≡ true → known (drop (pos - 1) s) ≡ true
-  known-turn h e = ap known (drop_before s pos more inside) ∙ known_more (get_or s (pos - 1) 0) (drop pos s) (omega arith) e
+-- a digit or none
+some_digit : (d n : ℕ) → ◌≡◌ {A = Option ℕ} (Some d) (cond (ltb n 40) (Some n) None) → (d ≡ n) × (n < 40)
+some_digit d n = go (ltb n 40) refl
+  where
+    go : (b : Bool) → ltb n 40 ≡ b → ◌≡◌ {A = Option ℕ} (Some d) (cond b (Some n) None) → (d ≡ n) × (n < 40)
+    go true h e = let is : d ≡ n = cc in (is, ltb-true n 40 h)
+    go false h e = cc
 
-  number-turn : (value : ℕ) → value ≡ callsign_value (drop pos s) → value * 40 + digit ≡ callsign_value (drop (pos - 1) s)
-  unfolding callsign_value
-  number-turn value e =
-      let n : value * 40 + digit ≡ digit_of (get_or s (pos - 1) 0) + 40 * callsign_value (drop pos s) = omega arith in
-      n ∙ sym (ap callsign_value (drop_before s pos more inside))
+no_digit : (n : ℕ) → ◌≡◌ {A = Option ℕ} None (cond (ltb n 40) (Some n) None) → 40 ≤ n
+no_digit n = go (ltb n 40) refl
+  where
+    go : (b : Bool) → ltb n 40 ≡ b → ◌≡◌ {A = Option ℕ} None (cond b (Some n) None) → 40 ≤ n
+    go true h e = cc
+    go false h e = ltb-false n 40 h
 
-  unknown : digit ≡ 40 → 0 ≡ cond (known s) (callsign_value s) 0
-  unknown e = rw (unknown_at s (pos - 1) (omega arith) (sym byte ∙ e))
+-- the characters so far, the last one first
+abbrev so_far : List (Bor ℕ) → List ℕ
+so_far xs = reverse (map (λ (y : Bor ℕ). y.now) xs)
 
--- the number so far is small
-small : (s : List ℕ) (pos value : ℕ) → length s ≡ 9 → known (drop pos s) ≡ true → value ≡ callsign_value (drop pos s) → value < 40 ^ 9
-small s pos value h k e = omega (arith, number_lt 9 (drop pos s) (omega (arith, length-drop pos s)) k)
+one_more : (xs : List (Bor ℕ)) (x : Bor ℕ) → so_far (xs ++ x ∷ []) ≡ x.now ∷ so_far xs
+one_more xs x = ap reverse (map-append (λ (y : Bor ℕ). y.now) xs (x ∷ [])) ∙ reverse-append (map (λ (y : Bor ℕ). y.now) xs) (x.now ∷ [])
 
--- all characters are taken
-all : (s : List ℕ) (pos value : ℕ) → pos ≤ 0 → known (drop pos s) ≡ true → value ≡ callsign_value (drop pos s) → value ≡ cond (known s) (callsign_value s) 0
-all s zero value h k e = rw k e
-all s (suc pos) value h k e = absurd (omega arith)
+small : (xs : List (Bor ℕ)) (n value : ℕ) → length xs ≤ n → known (so_far xs) ≡ true → value ≡ callsign_value (so_far xs) → value < 40 ^ n
+small xs n value h k e =
+    let long : length (so_far xs) ≡ length xs = length-reverse (map (λ (y : Bor ℕ). y.now) xs) ∙ length-map xs (λ (y : Bor ℕ). y.now) in
+    omega (arith, number_lt n (so_far xs) (omega arith) k)
 
-pub loop-pos-init : goal.loop-pos-init
+turn : (xs : List (Bor ℕ)) (x : Bor ℕ) (digit value : ℕ) → (digit ≡ digit_of x.now) × (digit_of x.now < 40)
+    → (known (so_far xs) ≡ true) × (value ≡ callsign_value (so_far xs))
+    → (known (so_far (xs ++ x ∷ [])) ≡ true) × (value * 40 + digit ≡ callsign_value (so_far (xs ++ x ∷ [])))
+unfolding callsign_value
+turn xs x digit value d h =
+    let n : value * 40 + digit ≡ digit_of x.now + 40 * callsign_value (so_far xs) = omega arith in (
+      ap known (one_more xs x) ∙ known_more x.now (so_far xs) d.1 h.0,
+      n ∙ sym (ap callsign_value (one_more xs x)),
+    )
+
+foreign : (s : List ℕ) (k c : ℕ) → (k < length (reverse s)) × (c ≡ get_or (reverse s) k c) → 40 ≤ digit_of c → known s ≡ false
+foreign s k c t h =
+    let long : length (reverse s) ≡ length s = length-reverse s in
+    let in_reverse : k < length s = omega arith in
+    let in_list : length s - 1 - k < length s = omega arith in
+    let is : c ≡ get_or s (length s - 1 - k) 0 = t.1 ∙ get_or-reverse s k c in_reverse ∙ get_or_default_zero s (length s - 1 - k) c in_list in
+    unknown_at s (length s - 1 - k) in_list (omega (arith, ap digit_of is))
+
+-- the end: all characters are taken
+all : (s : List ℕ) (xs : List (Bor ℕ)) → map (λ (y : Bor ℕ). y.now) xs ≡ reverse s → so_far xs ≡ s
+all s xs e = ap reverse e ∙ reverse-reverse s
+
+pub loop-c-init : goal.loop-c-init
 unfolding known callsign_value
-loop-pos-init c =
-    let h : length c.args.callsign.now ≤ 9 = omega arith in
-    let e : drop 9 c.args.callsign.now ≡ [] = drop_of_length-le c.args.callsign.now h in
-    (omega arith, ap known e, sym (ap callsign_value e))
+loop-c-init c = (refl, refl)
 
 pub overflow_mul-value : goal.overflow_mul-value
-overflow_mul-value c = let l = c in omega (arith, small l.args.callsign.now l.loop-pos.pos l.loop-pos.value (omega arith) l.loop-pos.invariant.1 l.loop-pos.invariant.2)
+overflow_mul-value c =
+    let t = YieldsList-turn (YieldsList-from_rev_slice c.args.callsign.now (search rules)) c.loop-c.yielded _ c.loop-c.yielded_by _ _ c.in-Some.c c.in-Some.is c.next.ensures.steps in
+    let long = length-reverse c.args.callsign.now in
+    omega (arith, small c.loop-c.yielded 8 c.loop-c.value (omega arith) c.loop-c.invariant.0 c.loop-c.invariant.1)
 
 pub overflow_add-value : goal.overflow_add-value
-overflow_add-value c = let l = c in omega (arith, small l.args.callsign.now l.loop-pos.pos l.loop-pos.value (omega arith) l.loop-pos.invariant.1 l.loop-pos.invariant.2)
+overflow_add-value c =
+    let t = YieldsList-turn (YieldsList-from_rev_slice c.args.callsign.now (search rules)) c.loop-c.yielded _ c.loop-c.yielded_by _ _ c.in-Some.c c.in-Some.is c.next.ensures.steps in
+    let long = length-reverse c.args.callsign.now in
+    omega (arith, some_digit _ _ c.in_ok-value.ensures, small c.loop-c.yielded 8 c.loop-c.value (omega arith) c.loop-c.invariant.0 c.loop-c.invariant.1)
 
-pub loop-pos-preserved : goal.loop-pos-preserved
-loop-pos-preserved c =
-    let l = c in
-    let s = l.args.callsign.now in (
-      omega arith,
-      known-turn s l.loop-pos.pos c.digit_of-digit.result (omega arith) (omega arith) c.digit_of-digit.ensures.0 (omega arith) l.loop-pos.invariant.1,
-      number-turn s l.loop-pos.pos c.digit_of-digit.result (omega arith) (omega arith) c.digit_of-digit.ensures.0 l.loop-pos.value l.loop-pos.invariant.2,
-    )
+pub loop-c-preserved : goal.loop-c-preserved
+loop-c-preserved c = turn c.loop-c.yielded c.in-Some.c c.in_ok-value.field-0 c.loop-c.value (some_digit _ _ c.in_ok-value.ensures) c.loop-c.invariant
 
-pub returns-then-digit-eq40 : goal.returns-then-digit-eq40
-returns-then-digit-eq40 c =
-    let l = c in (
-      unknown l.args.callsign.now l.loop-pos.pos c.digit_of-digit.result (omega arith) (omega arith)
-          c.digit_of-digit.ensures.0 c.if-digit-eq40.true,
-      omega arith,
-    )
+pub returns-in_err-value-clause-value : goal.returns-in_err-value-clause-value
+returns-in_err-value-clause-value c =
+    let t = YieldsList-turn (YieldsList-from_rev_slice c.args.callsign.now (search rules)) c.loop-c.yielded _ c.loop-c.yielded_by _ _ c.in-Some.c c.in-Some.is c.next.ensures.steps in
+    let s = c.args.callsign.now in
+    c.from_residual.ensures
+    ∙ sym (ap (λ (b : Bool). cond {A = Option ℕ} b (Some (callsign_value s)) None) (callsign_foreign s (foreign s _ _ t (no_digit _ c.in_err-value.ensures))))
 
-pub returns : goal.returns
-returns c =
-    let l = c in
-    let s = l.args.callsign.now in (
-      all s l.loop-pos.pos l.loop-pos.value (omega arith) l.loop-pos.invariant.1 l.loop-pos.invariant.2,
-      omega (arith, small s l.loop-pos.pos l.loop-pos.value (omega arith) l.loop-pos.invariant.1 l.loop-pos.invariant.2),
-    )
+pub returns-then-value-eq0-clause-value : goal.returns-then-value-eq0-clause-value
+returns-then-value-eq0-clause-value c =
+    let s = c.args.callsign.now in
+    let t = YieldsList-end (YieldsList-from_rev_slice s (search rules)) c.loop-c.yielded _ c.loop-c.yielded_by _ _ c.in-None.is c.next.ensures.steps in
+    let is = all s c.loop-c.yielded t.0 in
+    let n : c.loop-c.value ≡ callsign_value s = c.loop-c.invariant.1 ∙ ap callsign_value is in
+    let k : known s ≡ true = ap known (sym is) ∙ c.loop-c.invariant.0 in
+    sym (ap (λ (b : Bool). cond {A = Option ℕ} b (Some (callsign_value s)) None) (callsign_spaces s k (omega arith)))
+
+pub returns-clause-value : goal.returns-clause-value
+returns-clause-value c =
+    let s = c.args.callsign.now in
+    let t = YieldsList-end (YieldsList-from_rev_slice s (search rules)) c.loop-c.yielded _ c.loop-c.yielded_by _ _ c.in-None.is c.next.ensures.steps in
+    let is = all s c.loop-c.yielded t.0 in
+    let n : c.loop-c.value ≡ callsign_value s = c.loop-c.invariant.1 ∙ ap callsign_value is in
+    let k : known s ≡ true = ap known (sym is) ∙ c.loop-c.invariant.0 in
+    ap {B = Option ℕ} Some n ∙ sym (ap (λ (b : Bool). cond {A = Option ℕ} b (Some (callsign_value s)) None) (callsign_good s k (λ e. omega arith)))
+
+pub returns-clause-bound : goal.returns-clause-bound
+returns-clause-bound c =
+    let s = c.args.callsign.now in
+    let t = YieldsList-end (YieldsList-from_rev_slice s (search rules)) c.loop-c.yielded _ c.loop-c.yielded_by _ _ c.in-None.is c.next.ensures.steps in
+    let long = length-reverse s in
+    omega (arith, small c.loop-c.yielded 9 c.loop-c.value (omega arith) c.loop-c.invariant.0 c.loop-c.invariant.1)

@@ -1,14 +1,8 @@
--- `address::encode_base_40` meets its contract. The loop's invariant: the characters from `pos` on are known, and `value` is their number.
--- Assumes nothing.
-use mathlib.Core.Path.{◌≡◌}
-use mathlib.Core.Bool.{true}
-use Prim.Native.Nat.{◌≤◌}
-use lib.ListN.{drop}
+-- `address::encode_base_40` meets its contract. The loop's invariant: the characters so far are known, and `value` is their number. Assumes nothing.
+use Rattle.std.proofs.Common.{◌≡◌, true, map, reverse}
 use Rattle.address.specs.Callsign.{known, callsign_value}
 use Rattle.address.proofs.encode_base_40.Given as goal
 
-abbrev pub invariant-loop-pos : goal.invariant-loop-pos
-invariant-loop-pos l = (l.pos ≤ 9) × (known (drop l.pos l.callsign) ≡ true) × (l.value ≡ callsign_value (drop l.pos l.callsign))
-
-abbrev pub decreases-loop-pos : goal.decreases-loop-pos
-decreases-loop-pos l = l.pos
+abbrev pub invariant-loop-c : goal.invariant-loop-c
+invariant-loop-c l =
+    (known (reverse (map (λ y. y.now) l.yielded)) ≡ true) × (l.value ≡ callsign_value (reverse (map (λ y. y.now) l.yielded)))

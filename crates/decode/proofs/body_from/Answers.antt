@@ -14,4 +14,5 @@ unfolding body_from
 returns c =
     let l = c.loop-i in
     let xs = c.args.frame.now in
-    filled_all (λ k. byte_of (drop (8 * k) (pairs_of (drop 8 xs)))) 46 0 l.body l.i (omega arith) l.invariant ∙ sym (bytes_tabled 46 (pairs_of (drop 8 xs)))
+    filled_all (λ k. byte_of (drop (8 * k) (pairs_of (drop 8 xs)))) 46 0 l.byte-items l.i (omega (arith, c.loop-i-test.false, l.invariant.long)) l.invariant
+    ∙ sym (bytes_tabled 46 (pairs_of (drop 8 xs)))

@@ -1,18 +1,14 @@
 -- `decode::parse_lsf` meets its contract. Assumes nothing.
-use mathlib.Core.Path.{ap, ◌∙◌}
-use lib.ListN.{length}
-use borrow.Author.Tests.{eq-eqb, ne_eqb}
 use Rattle.decode.specs.Bodies.{lsf_read_of}
 use Rattle.decode.specs.Symbols.{lsf_parsed_of}
+use Rattle.decode.proofs.Steps.{parsed_of, unparsed}
 use Rattle.decode.proofs.parse_lsf.Goals as goal
 
-pub returns-then-frame-ne192 : goal.returns-then-frame-ne192
+pub returns-in_err-body : goal.returns-in_err-body
 unfolding lsf_parsed_of
-returns-then-frame-ne192 c = simp (ne_eqb (length c.args.frame.now) 192 c.if-frame-ne192.true) c.no_lsf.ensures
+returns-in_err-body c =
+    unparsed lsf_read_of c.args.frame.now c.body_of.result c.body_of.ensures _ _ c.in_err-body.was c.from_residual.ensures
 
 pub returns : goal.returns
 unfolding lsf_parsed_of
-returns c =
-    let b = c in
-    simp (eq-eqb (length b.args.frame.now) 192 b.if-frame-ne192.false)
-    (c.read_lsf.ensures ∙ ap lsf_read_of b.body_from-body.ensures)
+returns c = parsed_of lsf_read_of c.args.frame.now c.body_of.result c.body_of.ensures _ _ c.in_ok-body.was c.read_lsf.ensures

@@ -1,26 +1,24 @@
 -- `decode::read_lsf` meets its contract. Assumes nothing.
-use mathlib.Core.Path.{◌∙◌}
-use lib.ListN.{length}
-use borrow.Author.Tests.{ne_eqb}
+use mathlib.Core.Path.{refl}
+use Rattle.fec.specs.declared.Kind.TheVariants.{Header}
+use Rattle.protocol.specs.Header.{header}
 use Rattle.decode.specs.Bodies.{lsf_read_of}
-use Rattle.decode.proofs.ByLength.{lsf_done, lsf_refused}
+use Rattle.decode.proofs.Steps.{unread, undecoded, read_by}
 use Rattle.decode.proofs.read_lsf.Goals as goal
 
-pub returns-then-body-ne46 : goal.returns-then-body-ne46
+pub returns-in_err-coded : goal.returns-in_err-coded
 unfolding lsf_read_of
-returns-then-body-ne46 c = simp (ne_eqb (length c.args.body.now) 46 c.if-body-ne46.true) c.no_lsf.ensures
+returns-in_err-coded c =
+    unread Header header c.args.body.now c.unmask.result c.unmask.ensures _ _ c.in_err-coded.was c.from_residual.ensures
 
-pub returns-in-Done : goal.returns-in-Done
-returns-in-Done c =
-    let d = c in
-    let u = d in
-    lsf_done u.args.body.now u.if-body-ne46.false u.unmask-coded.result u.unmask-coded.ensures d.decode-read.result d.decode-read.ensures
-    c.in-Done.is
+pub returns-in_err-bytes : goal.returns-in_err-bytes
+unfolding lsf_read_of
+returns-in_err-bytes c =
+    undecoded Header header c.args.body.now c.unmask.result c.unmask.ensures _ _ c.in_ok-coded.was c.decode.result c.decode.ensures _ c.in_err-bytes.was
+    c.from_residual-in_err-bytes.ensures
 
-pub returns-in-Refused : goal.returns-in-Refused
-returns-in-Refused c =
-    let d = c in
-    let u = d in
-    c.no_lsf-in-Refused.ensures
-    ∙ lsf_refused u.args.body.now u.if-body-ne46.false u.unmask-coded.result u.unmask-coded.ensures d.decode-read.result d.decode-read.ensures _
-    c.in-Refused.is
+pub returns : goal.returns
+unfolding lsf_read_of
+returns c =
+    read_by Header header c.args.body.now c.unmask.result c.unmask.ensures _ _ c.in_ok-coded.was c.decode.result c.decode.ensures _ c.in_ok-bytes.was
+    refl

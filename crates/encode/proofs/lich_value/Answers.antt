@@ -1,12 +1,8 @@
--- `encode::lich_value` meets its contract: nothing overflows, and the sum is the number of the six bytes. Assumes nothing.
-use mathlib.Core.Path.{sym}
-use native.Mathlib.Omega.{arith}
-use Rattle.encode.proofs.Words.{value_five}
+-- `encode::lich_value` meets its contract: two zeros stand before the six bytes. Assumes nothing.
+use mathlib.Core.Path.{◌∙◌}
 use Rattle.encode.proofs.lich_value.Goals as goal
+use Rattle.encode.proofs.Words.{value_six}
+use borrow.Author.Rules.{rules}
 
 pub returns : goal.returns
-returns c =
-    let f = c in
-    let a = f.args in
-    rw (f.wide-a.ensures.0, c.wide-b.ensures.0, c.wide-c.ensures.0, c.wide-d.ensures.0, c.wide-e.ensures.0, c.wide.ensures.0)
-    (sym (value_five a.counter a.part.now (omega arith)))
+returns c = c.from_be_bytes.ensures ∙ value_six c.args.counter c.args.part (search rules)

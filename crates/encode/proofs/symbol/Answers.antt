@@ -5,18 +5,18 @@ use lib.Ieee.{div, of_bits, neg, round}
 use Rattle.encode.specs.Symbols.{symbol_of, third}
 use Rattle.encode.proofs.symbol.Goals as goal
 
-pub returns-then-pair-eq0 : goal.returns-then-pair-eq0
+pub returns-in-0 : goal.returns-in-0
 unfolding symbol_of third div of_bits neg round
-returns-then-pair-eq0 c = rw c.if-pair-eq0.true
+returns-in-0 c = rw c.in-0.is
 
-pub returns-then-pair-eq1 : goal.returns-then-pair-eq1
+pub returns-in-1 : goal.returns-in-1
 unfolding symbol_of third div of_bits neg round
-returns-then-pair-eq1 c = rw c.if-pair-eq1.true
+returns-in-1 c = rw c.in-1.is
 
-pub returns-then-pair-eq2 : goal.returns-then-pair-eq2
+pub returns-in-2 : goal.returns-in-2
 unfolding symbol_of third div of_bits neg round
-returns-then-pair-eq2 c = rw c.if-pair-eq2.true
+returns-in-2 c = rw c.in-2.is
 
-pub returns : goal.returns
+pub returns-in_default : goal.returns-in_default
 unfolding symbol_of third div of_bits neg round
-returns c = let e : c.args.pair ≡ 3 = omega arith in rw e
+returns-in_default c = let e : c.args.pair ≡ 3 = omega arith in rw e

@@ -1,12 +1,12 @@
 use native.Mathlib.Omega.{arith}
-use mathlib.Core.Path.{ap, ◌∙◌}
-use mathlib.Core.Bool.{Bool}
+use mathlib.Core.Path.{ap}
 use Prim.Native.Nat.{◌+◌}
 use Rattle.bits.specs.Bits.{bits_of}
 use Rattle.bits.proofs.Back.{length_bits}
-use Rattle.fec.specs.Code.{◌⊕◌, sends}
+use Rattle.fec.specs.Code.{sends}
 use Rattle.fec.specs.Search.{count}
 use Rattle.fec.proofs.Codes.{sofar_fits}
+use Rattle.fec.proofs.Packed.{sum_of_three, sum_of_four}
 use Rattle.fec.proofs.Written.{length-flushed, encoding_start, encoding_step, encoding_end}
 use Rattle.fec.proofs.code_bits.Invariants.{word}
 use Rattle.fec.proofs.code_bits.Goals as goal
@@ -27,9 +27,8 @@ loop-t-preserved c =
     let put = c.put_sent-at in
     let long = length-flushed a.n (bits_of a.plain.now) (omega (arith, length_bits a.plain.now)) in
     encoding_step (sends a.p) (word a.plain.now a.n) l.out l.at l.b1 l.b2 l.b3 l.b4 l.t l.invariant (omega (arith, long))
-    c.sent_at.result c.sent_at.ensures c.input_at-b.result c.sum-g1.result c.sum-g2.result c.input_at-b.ensures
-    (c.sum-g1.ensures ∙ ap (λ (x : Bool). x ⊕ l.b4) c.sum.ensures)
-    (c.sum-g2.ensures ∙ ap (λ (x : Bool). x ⊕ l.b4) (c.sum-in-loop-t-2.ensures ∙ ap (λ (x : Bool). x ⊕ l.b2) c.sum-in-loop-t.ensures))
+    c.sent_at.result c.sent_at.ensures c.input_at-b.result _ _ c.input_at-b.ensures
+    (sum_of_three c.input_at-b.result l.b3 l.b4) (sum_of_four c.input_at-b.result l.b1 l.b2 l.b4)
     put.new.out put.result put.auto.out put.ensures.0 put.ensures.1
 
 pub returns : goal.returns

@@ -2,7 +2,7 @@
 -- nothing.
 use mathlib.Core.Bool.{Bool}
 use mathlib.Core.List.{List}
-use Prim.Native.Nat.{ℕ, ◌-◌}
+use Prim.Native.Nat.{ℕ}
 use lib.ListN.{take}
 use Rattle.bits.specs.Bits.{bits_of}
 use Rattle.fec.specs.Code.{sends, flushed}
@@ -14,6 +14,3 @@ word plain n = flushed (take n (bits_of plain))
 
 abbrev pub invariant-loop-t : goal.invariant-loop-t
 invariant-loop-t l = Encoding (sends l.p) (word l.plain l.n) l.out l.at l.b1 l.b2 l.b3 l.b4 l.t
-
-abbrev pub decreases-loop-t : goal.decreases-loop-t
-decreases-loop-t l = l.t-end - l.t

@@ -9,8 +9,8 @@ returns-then-plain-plan c =
     let pl = c.plan_of-plan in
     writes_short a.kind pl.result pl.ensures a.plain.now c.if-plain-plan.true
 
-pub code_bits-out-requires : goal.code_bits-out-requires
-code_bits-out-requires c =
+pub code_bits-requires : goal.code_bits-requires
+code_bits-requires c =
     let a = c.args in
     let pl = c.plan_of-plan in
     let f = plan_fits a.kind pl.result pl.ensures a.plain.now in
@@ -20,6 +20,4 @@ pub returns : goal.returns
 returns c =
     let a = c.args in
     let pl = c.plan_of-plan in
-    let out = c.code_bits-out in
-    let packed = c.pack in
-    writes_long a.kind pl.result pl.ensures a.plain.now c.if-plain-plan.false out.result packed.new.out out.ensures packed.ensures
+    writes_long a.kind pl.result pl.ensures a.plain.now c.if-plain-plan.false c.code_bits.result c.pack.new.out c.code_bits.ensures c.pack.ensures

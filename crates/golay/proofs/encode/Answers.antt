@@ -1,7 +1,9 @@
 -- `golay::encode` meets its contract. Assumes nothing.
 use mathlib.Core.Path.{ap, ◌∙◌}
 use borrow.Author.Tests.{lt-ltb, le-ltb}
-use Rattle.golay.specs.declared.Codeword.TheVariants.{Word}
+use Rattle.std.specs.Prelude.{Result, Ok}
+use Rattle.refusal.specs.declared.Refusal.{Refusal}
+use Prim.Native.Nat.{ℕ}
 use Rattle.golay.specs.Golay.{golay, encoded_of}
 use Rattle.golay.proofs.encode.Goals as goal
 
@@ -13,4 +15,4 @@ pub returns : goal.returns
 unfolding encoded_of
 returns c =
     let h = c.if-value-ge4096.false in
-    simp (lt-ltb c.args.value 4096 h) (ap Word (c.word_of.ensures ∙ ap golay c.wide.ensures))
+    simp (lt-ltb c.args.value 4096 h) (ap {B = Result ℕ Refusal} (λ (n : ℕ). Ok n) (c.word_of.ensures ∙ ap golay c.from.ensures))

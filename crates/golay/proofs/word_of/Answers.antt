@@ -22,7 +22,7 @@ returns c =
     let a = c.args in
     let pre = c.requires in
     let v = a.value in
-    let h : v < 4096 = pre.2 in
-    let up : get_or a.high.now (v / 64) 0 ≡ golay (v / 64 * 64) = ap (λ (t : List ℕ). get_or t (v / 64) 0) pre.0 ∙ tabled_at (λ (k : ℕ). golay (k * 64)) 64 (v / 64) 0 (omega arith) in
-    let down : get_or a.low.now (v % 64) 0 ≡ golay (v % 64) = ap (λ (t : List ℕ). get_or t (v % 64) 0) pre.1 ∙ tabled_at golay 64 (v % 64) 0 (omega arith) in
+    let h : v < 4096 = pre in
+    let up : get_or c.upper-high.result.now (v / 64) 0 ≡ golay (v / 64 * 64) = ap (λ (t : List ℕ). get_or t (v / 64) 0) c.upper-high.ensures ∙ tabled_at (λ (k : ℕ). golay (k * 64)) 64 (v / 64) 0 (omega arith) in
+    let down : get_or c.lower-low.result.now (v % 64) 0 ≡ golay (v % 64) = ap (λ (t : List ℕ). get_or t (v % 64) 0) c.lower-low.ensures ∙ tabled_at golay 64 (v % 64) 0 (omega arith) in
     ap₂ bit_xor up down ∙ in_parts v h

@@ -4,8 +4,8 @@ use mathlib.Core.List.{List}
 use Prim.Native.Nat.{ℕ}
 use lib.ListN.{length}
 use borrow.Author.Tests.{eq-eqb, ne_eqb}
-use Rattle.refusal.specs.declared.Verdict.TheVariants.{Done}
-use Rattle.interleave.specs.declared.Interleaved.{Interleaved}
+use Rattle.std.specs.Prelude.{Result, Ok}
+use Rattle.refusal.specs.declared.Refusal.{Refusal}
 use Rattle.bits.specs.Bits.{bytes_of}
 use Rattle.interleave.specs.Interleave.{interleaved_of}
 use Rattle.interleave.proofs.interleave.Goals as goal
@@ -18,4 +18,4 @@ pub returns : goal.returns
 unfolding interleaved_of
 returns c =
     simp (eq-eqb (length c.args.payload.now) 46 c.if-payload-ne46.false)
-    (ap {B = Interleaved} (λ (b : List ℕ). record { answer = Done; bytes = b }) (c.packed.ensures ∙ ap (bytes_of 46) c.placed_bits-placed.ensures))
+    (ap {B = Result (List ℕ) Refusal} (λ (b : List ℕ). Ok b) (c.pack.ensures ∙ ap (bytes_of 46) c.placed_bits.ensures))

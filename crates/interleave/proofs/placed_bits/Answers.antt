@@ -1,33 +1,37 @@
--- `interleave::placed_bits` meets its contract: where the reader stands at place at, the bits before it are placed. Assumes nothing.
+-- `interleave::placed_bits` meets its contract: each turn puts the next bit at its place. Assumes nothing.
 use mathlib.Core.Path.{◌≡◌, refl, sym, ap, ap₂, ◌∙◌}
 use mathlib.Core.Bool.{Bool, true, false}
-use mathlib.Core.List.{List}
-use Prim.Native.Nat.{ℕ, ◌+◌, ◌<◌}
+use mathlib.Core.List.{List, ◌∷◌}
+use mathlib.Core.Logic.{⊎_elim}
+use Prim.Native.Nat.{ℕ, ◌+◌, ◌≤◌, ◌<◌}
+use native.Mathlib.Decide.{ℕ_discrete}
 use native.Mathlib.Omega.{arith}
 use native.Mathlib.Numerals.{add-one}
 use lib.Dec.{eqb}
-use lib.ListN.{length, get_or, set}
+use lib.Arith.{lt_of_le-ne}
+use lib.ListN.{length, get_or, set, drop}
+use lib.Seq.{drop-cons}
+use Rattle.std.proofs.lemmas.List.{length-drop}
 use Rattle.laws.specs.Tabled.{tabled}
-use Rattle.laws.proofs.Values.{tabled_at}
+use Rattle.laws.proofs.Values.{tabled_at, length-tabled}
 use Rattle.bits.specs.Bits.{bit, bits_of}
-use Rattle.bits.specs.Reader.{as_read, step_of}
-use Rattle.bits.specs.declared.Step.{Step}
+use Rattle.bits.specs.Reader.{as_read, next_of, place_after}
 use Rattle.bits.proofs.Reading.{reads_on}
 use Rattle.interleave.specs.Interleave.{mapped, placed, interleaved}
 use Rattle.interleave.proofs.Twice.{mapped-lt}
 use Rattle.interleave.proofs.placed_bits.Goals as goal
 
-pub loop-at-init : goal.loop-at-init
-unfolding placed
-loop-at-init c = (omega arith, refl)
+-- the first of the places from i on is i's place, and the others are those from i + 1 on
+first_place : (i m : ℕ) (l : List ℕ) → i ≤ 368 → drop i (tabled mapped 368) ≡ m ∷ l → (i < 368) × (m ≡ mapped i) × (l ≡ drop (i + 1) (tabled mapped 368))
+first_place i m l h e =
+    let k : i < 368 = omega (arith, length-drop i (tabled mapped 368), length-tabled mapped 368, ap length e) in
+    let f : m ∷ l ≡ get_or (tabled mapped 368) i 0 ∷ drop (i + 1) (tabled mapped 368) =
+    sym e ∙ drop-cons (tabled mapped 368) i 0 (omega (arith, length-tabled mapped 368)) ∙ ap (λ (n : ℕ). get_or (tabled mapped 368) i 0 ∷ drop n (tabled mapped 368)) (sym (add-one i)) in
+    (k, ap (λ (s : List ℕ). get_or s 0 0) f ∙ tabled_at mapped 368 i 0 k, ap (drop 1) f)
 
--- of 46 bytes a bit is read at each of 368 places
-read : (p : List ℕ) (i : ℕ) (r : Step) → length p ≡ 46 → i < 368 → r ≡ step_of p i → r ≡ record { bit = as_read (get_or (bits_of p) i false); place = i + 1 }
-read p i r e h q = q ∙ reads_on p i (omega arith) (omega arith)
-
--- the table's place
-place : (places : List ℕ) (i : ℕ) → places ≡ tabled mapped 368 → i < 368 → get_or places i 0 ≡ mapped i
-place places i e h = ap (λ (t : List ℕ). get_or t i 0) e ∙ tabled_at mapped 368 i 0 h
+-- of 46 bytes a bit is read at each of 368 places, and the reader moves on
+read : (p q : List ℕ) (i : ℕ) → q ≡ p → length p ≡ 46 → i < 368 → (next_of q i ≡ as_read (get_or (bits_of p) i false)) × (place_after q i ≡ i + 1)
+read p q i s e h = let r = reads_on q i (omega (arith, ap length s)) (omega arith) in (r.0 ∙ ap (λ (b : List ℕ). as_read (get_or (bits_of b) i false)) s, r.1)
 
 -- one turn: bit i is put at its place
 turn : (l : List Bool) (i : ℕ) (new : List Bool) (at b : ℕ) → new ≡ placed l i → at ≡ mapped i → b ≡ bit (get_or l i false)
@@ -41,33 +45,57 @@ turn l i new at b e p q =
     whole true = refl
     whole false = refl
 
-pub bounds-new-places : goal.bounds-new-places
-bounds-new-places c =
-    let l = c.loop-at in
-    let m = c.mapping-places in
-    let h : l.at < 368 = omega arith in
-    omega (arith, place m.result l.at m.ensures h, mapped-lt l.at)
+pub loop-place-init : goal.loop-place-init
+unfolding placed
+loop-place-init c =
+    let z = c.into_iter-place-iterator.ensures.into_iter_gives in
+    let a : c.into_iter-place-iterator.result.a ≡ c.iter.result = ap (λ s. s.a) z ∙ c.zip-place-items.ensures.first in
+    let b : c.into_iter-place-iterator.result.b ≡ c.new.result = ap (λ s. s.b) z ∙ c.zip-place-items.ensures.second in
+    let i : c.into_iter-place-iterator.result.b.idx ≡ 0 = ap (λ s. s.idx) b ∙ c.new.ensures.1 in (
+      omega (arith, i),
+      ap (λ s. s.bits.now) b ∙ ap (λ r. r.now) c.new.ensures.0,
+      ap (λ s. s.rest.now) a ∙ c.iter.ensures.rest ∙ c.mapping.ensures ∙ sym (ap (λ (n : ℕ). drop n (tabled mapped 368)) i),
+      sym (ap (placed (bits_of c.args.payload.now)) i),
+    )
 
-pub loop-at-preserved : goal.loop-at-preserved
-loop-at-preserved c =
-    let t = c in
-    let l = t.loop-at in
-    let m = t.mapping-places in
-    let a = t in
-    let h : l.at < 368 = omega arith in
-    let r = read a.args.payload.now l.at t.next_bit-step.result a.requires h t.next_bit-step.ensures in
-    let p : t.next_bit-step.result.place ≡ l.at + 1 = ap (λ (s : Step). s.place) r in
-    let b = c.in-Value.b in
-    let e = ap (λ (s : Step). s.bit) r in
-    let f = c.in-Value.is in
-    let q : b ≡ bit (get_or (bits_of a.args.payload.now) l.at false) = cc in (
-      omega arith,
-      turn (bits_of a.args.payload.now) l.at l.new (get_or m.result l.at 0) b l.invariant.1 (place m.result l.at m.ensures h) q
-          ∙ ap (placed (bits_of a.args.payload.now)) (sym p),
+pub bounds-new-place : goal.bounds-new-place
+bounds-new-place c =
+    let (small, same, left, done) = c.loop-place.invariant in
+    let (places, bits) = c.in-Some.ensures.steps in
+    let i = c.loop-place.place-iterator.b.idx in
+    let f = first_place i c.in-Some.place.now c.next.new.self.a.rest.now small (sym left ∙ places) in
+    omega (arith, f.1, mapped-lt i)
+
+pub loop-place-preserved : goal.loop-place-preserved
+loop-place-preserved c =
+    let (small, same, left, done) = c.loop-place.invariant in
+    let (places, (answer, lent, on)) = c.in-Some.ensures.steps in
+    let p = c.args.payload.now in
+    let i = c.loop-place.place-iterator.b.idx in
+    let q = c.loop-place.place-iterator.b.bits.now in
+    let f = first_place i c.in-Some.place.now c.next.new.self.a.rest.now small (sym left ∙ places) in
+    let r = read p q i same c.requires f.0 in
+    let next : c.next.new.self.b.idx ≡ i + 1 = on ∙ r.1 in
+    let b : c.in-Some.bit ≡ bit (get_or (bits_of p) i false) = let e = answer ∙ r.0 in cc in (
+      omega (arith, next, f.0),
+      ap (λ r. r.now) lent ∙ same,
+      f.2 ∙ ap (λ (n : ℕ). drop n (tabled mapped 368)) (sym next),
+      turn (bits_of p) i c.loop-place.new c.in-Some.place.now c.in-Some.bit done f.1 b ∙ ap (placed (bits_of p)) (sym next),
     )
 
 pub returns : goal.returns
 unfolding interleaved
 returns c =
-    let e : c.loop-at.at ≡ 368 = omega arith in
-    c.loop-at.invariant.1 ∙ ap (λ (n : ℕ). placed (bits_of c.args.payload.now) n) e
+    let (small, same, left, done) = c.loop-place.invariant in
+    let p = c.args.payload.now in
+    let i = c.loop-place.place-iterator.b.idx in
+    let q = c.loop-place.place-iterator.b.bits.now in
+    let some : (i < 368 → ⊥) =
+    λ h. ⊎_elim (λ a. omega (arith, a.1.0, ap length left, length-drop i (tabled mapped 368), length-tabled mapped 368))
+    (λ a. let e = a.1.0 ∙ (read p q i same c.requires h).0 in let z : ◌≡◌ {A = ℕ} 0 1 = cc in omega arith) c.in-None.ensures.steps in
+    let whole : i ≡ 368 = go (ℕ_discrete i 368) (λ n. some (lt_of_le-ne small n)) in
+    done ∙ ap (placed (bits_of p)) whole
+  where
+    go : {i : ℕ} → Dec (i ≡ 368) → ((i ≡ 368 → ⊥) → ⊥) → i ≡ 368
+    go (yes p) n = p
+    go (no m) n = absurd (n m)

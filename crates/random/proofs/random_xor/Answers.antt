@@ -1,10 +1,10 @@
 -- `random::random_xor` meets its contract: after i turns the first i bytes are xored. Assumes nothing.
-use mathlib.Core.Path.{◌≡◌, refl, sym, ap, ◌∙◌}
+use mathlib.Core.Path.{◌≡◌, sym, ap, ◌∙◌}
 use mathlib.Core.List.{List}
 use Prim.Native.Nat.{ℕ, ◌+◌, ◌%◌, ◌<◌}
 use native.Mathlib.Omega.{arith}
 use lib.Bits.{bit_xor}
-use lib.ListN.{length, get_or, set, length-set}
+use lib.ListN.{length, get_or, set}
 use Rattle.laws.proofs.InPlace.{done, done_at, done_more, done_all}
 use Rattle.random.specs.Random.{random_seq, xored}
 use Rattle.random.proofs.Twice.{length-xored, xored_at}
@@ -23,16 +23,10 @@ turn s₀ s i h e =
 pub loop-i-preserved : goal.loop-i-preserved
 loop-i-preserved c =
     let l = c.loop-i in
-    let s₀ = c.args.bytes.now in
-    let seq = c.sequence-seq in (
-      omega arith,
-      refl,
-      length-set l.bytes l.i _ ∙ l.invariant.2,
-      ap (λ (t : List ℕ). set l.bytes l.i (bit_xor (get_or l.bytes l.i 0) (get_or t (l.i % 46) 0))) seq.ensures
-          ∙ turn s₀ l.bytes l.i (omega arith) l.invariant.3,
-    )
+    ap (λ (t : List ℕ). set l.bytes l.i (bit_xor (get_or l.bytes l.i 0) (get_or t (l.i % 46) 0))) c.sequence-seq.ensures
+    ∙ turn c.args.bytes.now l.bytes l.i (omega arith) l.invariant
 
 pub returns : goal.returns
 returns c =
     let s₀ = c.args.bytes.now in
-    c.loop-i.invariant.3 ∙ done_all (xored s₀) s₀ (length-xored s₀) c.loop-i.i (omega arith)
+    c.loop-i.invariant ∙ done_all (xored s₀) s₀ (length-xored s₀) c.loop-i.i (omega arith)

@@ -1,8 +1,10 @@
 /* The M17 bit codec, proved. Link with libm17.a, which bindings/library writes to target/staticlib/.
  *
  * Every buffer is a pointer and, right after it, its length. A function that can refuse returns 0 or the number of its
- * refusal; on a refusal it leaves every lent buffer and number as it was. A buffer of another length than the one named,
- * lent for the answer or not, is refused with 1, before anything else is looked at. Numbers of document 01:
+ * refusal; on a refusal it leaves every lent buffer and number as it was. What is lent to be written must not overlap what
+ * else is lent. A buffer of another length than the one named, lent for the answer or not, is refused with 1, before anything
+ * else is looked at; only where a length goes by the kind of body, the kind of what is to be coded or read is judged before its
+ * length, with 2, and after the buffer for the answer. Numbers of document 01:
  * 1 wrong length, 2 out of range, 3 nearest word over six, 4 Golay word refused, 5 header CRC not zero, 6 bad address,
  * 7 unknown sync, 8 packet slot out of turn, 9 final length 0 or over 25, 10 total under 3, 11 packet CRC not zero,
  * 12 bad state. The receiver alone answers in a struct, with that number in its field `said`. */
@@ -10,6 +12,51 @@
 #define M17_H
 #include <stddef.h>
 #include <stdint.h>
+
+#ifdef __cplusplus
+extern "C" {
+#endif
+
+/* ---- the numbers, by name */
+
+/* Refusals. */
+enum {
+    M17_WRONG_LENGTH = 1,
+    M17_OUT_OF_RANGE = 2,
+    M17_TOO_FAR = 3,
+    M17_BAD_GOLAY = 4,
+    M17_BAD_HEADER = 5,
+    M17_BAD_ADDRESS = 6,
+    M17_UNKNOWN_SYNC = 7,
+    M17_OUT_OF_TURN = 8,
+    M17_BAD_FINAL = 9,
+    M17_TOO_SHORT = 10,
+    M17_BAD_PACKET = 11,
+    M17_BAD_STATE = 12
+};
+
+/* Kinds of address. */
+enum { M17_ADDRESS_INVALID = 0, M17_ADDRESS_CALLSIGN = 1, M17_ADDRESS_RESERVED = 2, M17_ADDRESS_BROADCAST = 3 };
+/* Kinds of body. */
+enum { M17_KIND_HEADER = 0, M17_KIND_STREAM = 1, M17_KIND_PACKET = 2 };
+/* Fields of a header's type. */
+enum { M17_MODE_PACKET = 0, M17_MODE_STREAM = 1 };
+enum { M17_DATA_RESERVED = 0, M17_DATA_DATA = 1, M17_DATA_VOICE = 2, M17_DATA_VOICE_AND_DATA = 3 };
+enum { M17_ENCRYPTION_NONE = 0, M17_ENCRYPTION_SCRAMBLER = 1, M17_ENCRYPTION_AES = 2, M17_ENCRYPTION_OTHER = 3 };
+/* A receiver's phases, and its answers. */
+enum { M17_PHASE_IDLE = 0, M17_PHASE_PACKET = 1, M17_PHASE_GATHERING = 2 };
+enum {
+    M17_ANSWER_REFUSED = 0,
+    M17_ANSWER_HEADER = 1,
+    M17_ANSWER_STORED = 2,
+    M17_ANSWER_PACKET = 3,
+    M17_ANSWER_STREAM = 4,
+    M17_ANSWER_LATE_HEADER = 5,
+    M17_ANSWER_SPOILED = 6,
+    M17_ANSWER_ENDED = 7
+};
+/* The four sync words, the first two bytes of a slot, high byte first. */
+enum { M17_SYNC_HEADER = 0x55F7, M17_SYNC_STREAM = 0xFF5D, M17_SYNC_PACKET = 0x75FF, M17_SYNC_END = 0x555D };
 
 /* ---- leaves */
 
@@ -190,5 +237,9 @@ m17_receiver m17_receiver_new(void);
 /* Takes a slot of 48 bytes, with 825 bytes of packet memory. A stored piece changes its 25 bytes of the memory, a packet handed out
  * its final piece's bytes; nothing else does. */
 m17_received m17_receive(m17_receiver state, const uint8_t *slot, size_t slot_len, uint8_t *memory, size_t memory_len);
+
+#ifdef __cplusplus
+}
+#endif
 
 #endif

@@ -17,6 +17,7 @@ pub mod interleave;
 pub mod protocol;
 pub mod random;
 pub mod receiver;
+pub mod sync;
 
 mod header;
 mod lich;

@@ -56,6 +56,8 @@ refusals! {
     12 BadState "state with n over 32 or k over 5"
 }
 
+impl core::error::Error for Refusal {}
+
 impl Refusal {
     pub(crate) fn judge(said: u8) -> crate::Result<()> {
         Refusal::of(said).map_or(Ok(()), Err)

@@ -4,7 +4,7 @@ use okihemon::crc::{m17_crc, update};
 use okihemon::decode::{decode_lich, frame_initial_decode, parse_lsf, read_lsf, read_packet, read_stream};
 use okihemon::encode::{encode_packet, encode_stream, write_lsf, write_packet, write_stream};
 use okihemon::{
-    bits, c, fec, golay, interleave::interleave, Address, Answer, Callsign, Kind, LichCollection, LsfFrame,
+    bits, c, fec, golay, interleave::interleave, sync, Address, Answer, Callsign, Kind, LichCollection, LsfFrame,
     PacketFrame, PacketFrameCounter, Receiver, Refusal, StreamFrame,
 };
 
@@ -148,4 +148,33 @@ fn bench() {
     assert_eq!(write_packet(&packet(PacketFrameCounter::Frame { index: 0 })), Ok(sequence));
     assert!(write_packet(&packet(PacketFrameCounter::Frame { index: 31 })).is_ok());
     assert!(write_packet(&last(25)).is_ok());
+}
+
+// A refusal goes by `?` into a boxed error, and says there what it means.
+#[test]
+fn boxed() {
+    fn channel(number: u8) -> Result<u8, Box<dyn std::error::Error>> {
+        let mut header = LsfFrame::new_packet(&Address::Broadcast, &Address::Broadcast)?;
+        header.set_channel_access_number(number)?;
+        Ok(header.channel_access_number())
+    }
+    assert_eq!(channel(15).unwrap(), 15);
+    let why = channel(16).unwrap_err();
+    assert_eq!(why.downcast_ref::<Refusal>(), Some(&Refusal::OutOfRange));
+    assert_eq!(why.to_string(), Refusal::OutOfRange.to_string());
+}
+
+// Slots begin with these words: each is what the receiver takes it for.
+#[test]
+fn syncs() {
+    let mut memory = [0; 825];
+    for (word, refused) in [(sync::HEADER, false), (sync::STREAM, false), (sync::PACKET, false), (sync::END, false), (0x5555, true)] {
+        let mut slot = [0; 48];
+        slot[..2].copy_from_slice(&word.to_be_bytes());
+        let answer = Receiver::new().receive(&slot, &mut memory);
+        assert_eq!(matches!(answer, Answer::Refused(Refusal::UnknownSync)), refused, "{word:04x}");
+    }
+    let mut end = [0; 48];
+    end[..2].copy_from_slice(&sync::END.to_be_bytes());
+    assert!(matches!(Receiver::new().receive(&end, &mut memory), Answer::End));
 }

@@ -1,10 +1,10 @@
 /* The M17 bit codec, proved. Link with libm17.a, which bindings/library writes to target/staticlib/.
  *
  * Every buffer is a pointer and, right after it, its length. A function that can refuse returns 0 or the number of its
- * refusal; on a refusal it leaves every lent buffer and number as it was. What is lent to be written must not overlap what
- * else is lent. A buffer of another length than the one named, lent for the answer or not, is refused with 1, before anything
- * else is looked at; only where a length goes by the kind of body, the kind of what is to be coded or read is judged before its
- * length, with 2, and after the buffer for the answer. Numbers of document 01:
+ * refusal; on a refusal it leaves every lent buffer and number as it was. A buffer of another length than the one named,
+ * lent for the answer or not, is refused with 1, before anything else is looked at; only where a length goes by the kind of
+ * body, the kind of what is to be coded or read is judged before its length, with 2, and after the buffer for the answer. Of
+ * buffers that overlap, where one of them is written, the proofs say nothing. Numbers of document 01:
  * 1 wrong length, 2 out of range, 3 nearest word over six, 4 Golay word refused, 5 header CRC not zero, 6 bad address,
  * 7 unknown sync, 8 packet slot out of turn, 9 final length 0 or over 25, 10 total under 3, 11 packet CRC not zero,
  * 12 bad state. The receiver alone answers in a struct, with that number in its field `said`. */

@@ -56,6 +56,7 @@ refusals! {
     12 BadState "state with n over 32 or k over 5"
 }
 
+#[cfg(core_error)]
 impl core::error::Error for Refusal {}
 
 impl Refusal {

@@ -150,7 +150,8 @@ fn bench() {
     assert!(write_packet(&last(25)).is_ok());
 }
 
-// A refusal goes by `?` into a boxed error, and says there what it means.
+// A refusal goes by `?` into a boxed error, and says there what it means: from Rust 1.81 on.
+#[cfg(core_error)]
 #[test]
 fn boxed() {
     fn channel(number: u8) -> Result<u8, Box<dyn std::error::Error>> {

@@ -5,7 +5,7 @@ ghost use Rattle.protocol.specs.Lich.{flags_set};
 ghost use Rattle.m17.specs.Given.{given, there, given_there};
 ghost use Rattle.m17.specs.Gathered.{flagged, flag_bytes, flags_for, collection_for, set_for, assembled_for};
 
-use super::{give_number, give_there};
+use super::give_number;
 use protocol::LichCollection;
 use refusal::Refusal;
 
@@ -68,8 +68,8 @@ pub fn m17_set_segment(parts: &mut [u8], set: &mut [u8], counter: u8, part: &[u8
 {
     let answer = with_segment(parts, set, counter, part);
     if let Ok(new) = answer {
-        parts.copy_from_slice(&new.bytes);
         set.copy_from_slice(&flag_bytes(new.set));
+        parts.copy_from_slice(&new.bytes);
     }
     refusal::said(answer)
 }
@@ -77,15 +77,16 @@ pub fn m17_set_segment(parts: &mut [u8], set: &mut [u8], counter: u8, part: &[u8
 pub fn m17_try_assemble(parts: &[u8], set: &[u8], assembled: &mut u8, out: &mut [u8]) -> u8
     ensures { (result ≡ said_of (assembled_for parts.now set.now out.old)) × (assembled.new ≡ given (made_of there (assembled_for parts.now set.now out.old)) assembled.old) × (out.new ≡ given (made_of (λ header. given_there header out.old) (assembled_for parts.now set.now out.old)) out.old) }
 {
-    // What is lent goes back as it was where no header is assembled.
-    // kept: `let .. else` serves the refusals, as document 01 has it.
-    let Ok(mut bytes) = <[u8; 30]>::try_from(&*out) else {
+    if out.len() != 30 {
         return u8::from(Refusal::WrongLength);
-    };
+    }
     let gathered = collection(parts, set);
     if let Ok(lich) = gathered {
-        give_there(lich.try_assemble(), assembled, &mut bytes);
-        out.copy_from_slice(&bytes);
+        let header = lich.try_assemble();
+        *assembled = u8::from(header.is_some());
+        if let Some(bytes) = header {
+            out.copy_from_slice(&bytes);
+        }
     }
     refusal::said(gathered)
 }

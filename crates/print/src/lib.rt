@@ -8,7 +8,6 @@ use std::convert::AsSlice;
 use std::fmt;
 
 // `s` is put into `to` from place `at` on. What finds no room is left out. Answers the place behind it.
-// kept: no program calls it now, but its promise and its wrong programs stand.
 pub fn append(to: &mut [u8], at: usize, s: &[u8]) -> usize
     ensures { (result ≡ at + room_for to.old at s.now) × (to.new ≡ appended to.old at s.now) }
 {

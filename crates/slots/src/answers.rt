@@ -5,14 +5,13 @@ use print::Hex;
 use protocol::{LsfFrame, StreamFrame};
 use receiver::{Answer, Late};
 use refusal::Refusal;
-use std::alloc::Allocator;
 use std::io;
 use std::io::Write;
 
 // A packet's two lines, both without its two CRC bytes.
 // kept: a slot's number goes beside the lines, since the summary is a line with none.
-fn packet_lines<W: Write, A: Allocator>(
-    lines: &mut Lines<'_, W, A>,
+fn packet_lines<W: Write>(
+    lines: &mut Lines<'_, W>,
     n: u64,
     total: usize,
     memory: &[u8],
@@ -25,8 +24,8 @@ fn packet_lines<W: Write, A: Allocator>(
 }
 
 // A line for the frame, and one where it is the sixth of six parts.
-fn stream_lines<W: Write, A: Allocator>(
-    lines: &mut Lines<'_, W, A>,
+fn stream_lines<W: Write>(
+    lines: &mut Lines<'_, W>,
     n: u64,
     frame: StreamFrame,
     late: Late,
@@ -44,17 +43,13 @@ fn stream_lines<W: Write, A: Allocator>(
 }
 
 // The line of what is left at the end, where that is no whole slot.
-pub fn rest_line<W: Write, A: Allocator>(
-    lines: &mut Lines<'_, W, A>,
-    n: u64,
-    bytes: usize,
-) -> io::Result<()> {
+pub fn rest_line<W: Write>(lines: &mut Lines<'_, W>, n: u64, bytes: usize) -> io::Result<()> {
     lines.write(format_args!("{n:04} rest: bytes {bytes}"))
 }
 
 // The lines of slot n.
-pub fn say<W: Write, A: Allocator>(
-    lines: &mut Lines<'_, W, A>,
+pub fn say<W: Write>(
+    lines: &mut Lines<'_, W>,
     n: u64,
     answer: Result<Answer, Refusal>,
     memory: &[u8],

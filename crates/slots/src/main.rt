@@ -49,7 +49,7 @@ fn fail(rt: &impl Runtime, what: &str, why: io::Error) -> ExitCode {
 }
 
 fn read_input<I: Read>(rt: &impl Runtime, input: &mut I, name: &str) -> ExitCode {
-    match read_recording(input, &mut Lines::new(rt.alloc(), &mut io::writer(rt))) {
+    match read_recording(input, &mut Lines::new(&mut io::writer(rt))) {
         Ok(()) => ExitCode::SUCCESS,
         Err(Failure::Input(why)) => fail(rt, name, why),
         Err(Failure::Output(why)) => fail(rt, "standard output", why),

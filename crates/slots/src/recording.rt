@@ -3,7 +3,6 @@ use crate::answers::{rest_line, say};
 use crate::lines::Lines;
 use crate::tally::Tally;
 use receiver::Receiver;
-use std::alloc::Allocator;
 use std::io;
 use std::io::{Read, Write};
 
@@ -31,11 +30,7 @@ fn fill<R: Read>(input: &mut R, slot: &mut [u8]) -> io::Result<usize> {
 }
 
 // The lines at the end of a recording, after so many bytes that are no slot.
-fn last_lines<W: Write, A: Allocator>(
-    lines: &mut Lines<'_, W, A>,
-    tally: Tally,
-    bytes: usize,
-) -> io::Result<()> {
+fn last_lines<W: Write>(lines: &mut Lines<'_, W>, tally: Tally, bytes: usize) -> io::Result<()> {
     let mut after = tally;
     if 0 < bytes {
         rest_line(lines, after.next_slot(), bytes)?;
@@ -44,9 +39,9 @@ fn last_lines<W: Write, A: Allocator>(
 }
 
 // kept: a proved loop has to end, and nothing says that a recording does: no run uses up the turns.
-pub fn read_recording<R: Read, W: Write, A: Allocator>(
+pub fn read_recording<R: Read, W: Write>(
     input: &mut R,
-    lines: &mut Lines<'_, W, A>,
+    lines: &mut Lines<'_, W>,
 ) -> Result<(), Failure> {
     let mut receiver = Receiver::new();
     let mut memory = [0u8; 825];

@@ -9,13 +9,17 @@ use lib.Dec.{T, eqb, leb, lit<}
 use lib.ListN.{length, get_or, take, drop, length-drop}
 use lib.Seq.{length-take-le}
 use borrow.Author.Tests.{eqb-true, leb-true}
-use Rattle.std.proofs.Common.{Ok}
+use Rattle.std.specs.Prelude.{Result}
+use Rattle.std.proofs.Common.{Ok, Err}
 use Rattle.laws.specs.Value.{value_of, in_bytes}
 use Rattle.laws.proofs.Every.{every, every_at}
 use Rattle.laws.proofs.Number.{bytes_of_value}
 use Rattle.laws.proofs.Bytes.{bytes_take, bytes_drop}
+use Rattle.refusal.specs.declared.Refusal.{Refusal}
 use Rattle.address.specs.declared.Address.{Address}
-use Rattle.address.specs.Address.{address_value, encoded_of, decoded_of}
+use Rattle.address.specs.declared.Reading.{Reading}
+use Rattle.address.specs.Address.{address_value, address_of, encoded_of, decoded_of}
+use Rattle.address.proofs.EachKind.{read_six}
 use Rattle.address.proofs.RoundTrip.{read_back, accepted_bytes, written_then_read}
 use Rattle.protocol.specs.declared.Mode.{Mode}
 use Rattle.protocol.specs.declared.Mode.TheVariants.{Packet, Stream}
@@ -135,6 +139,11 @@ bytes_read s thirty a n h =
     (ap (in_bytes n) (field_bytes s thirty a n h) ∙ ap (λ (k : ℕ). in_bytes k (value_of (take n (drop a s)))) (sym long)
     ∙ bytes_of_value (take n (drop a s)) (bytes_take n (drop a s) (bytes_drop a s thirty.bytes)))
 
+-- what was read, or `d` where nothing was
+abbrev read_or : Reading → Result Reading Refusal → Reading
+read_or d (Ok r) = r
+read_or d (Err why) = d
+
 -- an address that is accepted, set from byte k on
 module _ (s : List ℕ) (thirty : Thirty s) (k : ℕ) (within : k + 6 ≤ 28) (a : Address) (cs b : List ℕ) (good : encoded_of a cs ≡ Ok b) where
   pub address_sets : Sets (bytes_from k 6) (address_value a cs) s (set_field (bytes_from k 6) (address_value a cs) s)
@@ -146,3 +155,10 @@ module _ (s : List ℕ) (thirty : Thirty s) (k : ℕ) (within : k + 6 ≤ 28) (a
       (bytes_read (set_field (bytes_from k 6) (address_value a cs) s) address_sets.thirty k 6 within ∙ ap (in_bytes 6) address_sets.reads_back
       ∙ sym (accepted_bytes a cs b good))
       ∙ written_then_read a cs b good
+
+  -- the same as `destination` and `source` read it, which a header's six bytes leave nothing to refuse
+  pub address_heard : address_of (value_of (take 6 (drop k (set_field (bytes_from k 6) (address_value a cs) s)))) ≡ read_back a cs
+  address_heard =
+      let new : List ℕ = set_field (bytes_from k 6) (address_value a cs) s in
+      let long : length (take 6 (drop k new)) ≡ 6 = length-take-le 6 (drop k new) (omega (arith, within, length-drop k new, address_sets.thirty.long)) in
+      ap (read_or (read_back a cs)) (sym (read_six (take 6 (drop k new)) long) ∙ address_back)

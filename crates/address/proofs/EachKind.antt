@@ -68,5 +68,11 @@ callsign_spaces s k e = simp (k, number_zero s k e)
 pub callsign_foreign : (s : List ℕ) → known s ≡ false → writable Callsign s ≡ false
 callsign_foreign s e = simp e
 
+pub reserved_low : (v : ℕ) (s : List ℕ) → v < 0xEE6B28000000 → writable (Reserved v) s ≡ false
+reserved_low v s h = simp (lt-leb 0xEE6B28000000 v h)
+
+pub reserved_high : (v : ℕ) (s : List ℕ) → 0xEE6B28000000 ≤ v → 0xFFFFFFFFFFFE < v → writable (Reserved v) s ≡ false
+reserved_high v s l h = simp (le-leb 0xEE6B28000000 v l, lt-leb v 0xFFFFFFFFFFFE h)
+
 pub reserved_good : (v : ℕ) (s : List ℕ) → 0xEE6B28000000 ≤ v → v ≤ 0xFFFFFFFFFFFE → writable (Reserved v) s ≡ true
 reserved_good v s l h = simp (le-leb 0xEE6B28000000 v l, le-leb v 0xFFFFFFFFFFFE h)

@@ -173,6 +173,11 @@ bytes_are (suc n) l (suc k) = bytes_are n (drop 8 l) k
 
 -- ---- whole bytes
 
+pub bits_append : (s t : List ℕ) → bits_of (s ++ t) ≡ bits_of s ++ bits_of t
+unfolding bits_of
+bits_append [] t = refl
+bits_append (x ∷ s) t = ap (λ (l : List Bool). eight x ++ l) (bits_append s t)
+
 -- 8 n, so that it computes on n
 abbrev octuple : ℕ → ℕ
 octuple zero = 0

@@ -1,5 +1,5 @@
 -- A bit that is set: what the bytes are then, that it reads as set, and that every other place is kept. Assumes nothing.
-use mathlib.Core.Path.{◌≡◌, sym, ap, ap₂, ◌∙◌}
+use mathlib.Core.Path.{◌≡◌, refl, sym, ap, ap₂, ◌∙◌}
 use mathlib.Core.Bool.{Bool, true, false, not, cond}
 use mathlib.Core.List.{List, [], ◌∷◌}
 use Prim.Native.Nat.{ℕ, zero, suc, ◌-◌, ◌*◌, ◌/◌, ◌%◌, ◌^◌, ◌<◌, ◌≤◌}
@@ -20,6 +20,10 @@ use Rattle.bits.proofs.Back.{length_bits, length_bytes, byte_eight, bytes_bits, 
 
 pub flag_one : (v : ℕ) → (v ≡ 0 → ⊥) → flag v ≡ true
 flag_one v h = ap not (ne_eqb v 0 h)
+
+pub flag-bit : (b : Bool) → flag (bit b) ≡ b
+flag-bit true = refl
+flag-bit false = refl
 
 -- ---- the byte that holds the bit
 

@@ -4,6 +4,7 @@ use mathlib.Core.Bool.{Bool, true, false, not, beq}
 use mathlib.Core.List.{List}
 use Prim.Native.Nat.{ℕ, ◌≤◌}
 use native.Mathlib.Omega.{arith}
+use lib.Dec.{eqb}
 use lib.ListN.{take, get_or, get_or-eq_default, length-take}
 use mir.Val.{bool_byte}
 use Rattle.bits.specs.Bits.{bit}
@@ -20,6 +21,10 @@ sum_of_three a b c = sum_is (not (beq a b)) c ∙ ap (λ (x : Bool). x ⊕ c) (s
 
 pub sum_of_four : (a b c d : Bool) → not (beq (not (beq (not (beq a b)) c)) d) ≡ a ⊕ b ⊕ c ⊕ d
 sum_of_four a b c d = sum_is (not (beq (not (beq a b)) c)) d ∙ ap (λ (x : Bool). x ⊕ d) (sum_of_three a b c)
+
+pub eqb-bit : (x : ℕ) (b : Bool) → x ≡ bit b → eqb x 1 ≡ b
+eqb-bit x true e = ap (λ (x : ℕ). eqb x 1) e
+eqb-bit x false e = ap (λ (x : ℕ). eqb x 1) e
 
 pub bit_unlike : (a b : Bool) → bool_byte (not (beq a b)) ≡ bit (a ⊕ b)
 bit_unlike true true = refl

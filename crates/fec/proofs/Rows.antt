@@ -31,6 +31,16 @@ heard Both rx at h i = rw (one_heard rx at (omega arith), one_heard rx (at + 1) 
 heard First rx at h i = rw (one_heard rx at (omega arith))
 heard Second rx at h i = rw (one_heard rx at (omega arith))
 
+pub shelf-lt : (e : Sends) (x y : Bool) → shelf e x y < 8
+shelf-lt Both true true = omega arith
+shelf-lt Both true false = omega arith
+shelf-lt Both false true = omega arith
+shelf-lt Both false false = omega arith
+shelf-lt First true y = omega arith
+shelf-lt First false y = omega arith
+shelf-lt Second true y = omega arith
+shelf-lt Second false y = omega arith
+
 -- eight rows, each the prices for one thing that can be received
 pub shelved : (r₀ r₁ r₂ r₃ r₄ r₅ r₆ r₇ : List ℕ)
     → ((i : ℕ) → i < 32 → get_or r₀ i 0 ≡ price Both false false i) → ((i : ℕ) → i < 32 → get_or r₁ i 0 ≡ price Both false true i)

@@ -40,6 +40,9 @@ module _ {A : Type 0} where
     pub long : length l ≡ n
     pub filled : (k : ℕ) → k < i → get_or l k d ≡ f k
 
+  pub filled_none : (f : ℕ → A) (n : ℕ) (d : A) (l : List A) → length l ≡ n → Filled f n d l 0
+  filled_none f n d l e = record { long = e; filled = λ k h. absurd (omega arith) }
+
   pub filled_more : (f : ℕ → A) (n : ℕ) (d : A) (l : List A) (i : ℕ) (v : A) → i < n → Filled f n d l i → v ≡ f i → Filled f n d (set l i v) (i + 1)
   filled_more f n d l i v h p e =
       record {

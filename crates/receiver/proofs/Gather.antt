@@ -9,7 +9,7 @@ use native.Mathlib.Omega.{arith}
 use lib.Dec.{eqb}
 use lib.ListN.{length, take, drop, replicate, length-append}
 use lib.Seq.{take_at, drop-drop, drop-append-add}
-use borrow.Author.Tests.{eq-eqb, ne_eqb, eqb-true, eqb-false}
+use borrow.Author.Tests.{eq-eqb, ne_eqb, eqb-true, eqb-false, leb-true}
 use Rattle.std.specs.Prelude.{Ok}
 use Rattle.std.proofs.lemmas.List.{drop-replicate}
 use Rattle.crc.specs.Crc.{crc}
@@ -26,7 +26,7 @@ use Rattle.receiver.specs.declared.Late.TheVariants.{Nothing, Header, Spoiled}
 use Rattle.receiver.specs.declared.Answer.TheVariants.{Stream}
 use Rattle.receiver.specs.declared.Received.{Received}
 use Rattle.receiver.specs.See.{seen_stream}
-use Rattle.receiver.specs.Receiver.{meaning, state_of, gathered, padded, received_from, taken}
+use Rattle.receiver.specs.Receiver.{meaning, state_of, within, gathered, padded, received_from, taken}
 
 -- ---- parts in an array of 30 zeros
 
@@ -58,6 +58,11 @@ gathered_is : (ph : Phase) (parts : List ℕ) → step.count (meaning ph parts) 
 gathered_is Idle parts = refl
 gathered_is (Packet n) parts = refl
 gathered_is (Gathering k) parts = refl
+
+pub gathered≤5 : (ph : Phase) → within ph ≡ true → gathered ph ≤ 5
+gathered≤5 Idle w = omega arith
+gathered≤5 (Packet n) w = omega arith
+gathered≤5 (Gathering k) w = leb-true k 5 w
 
 parts_are : (ph : Phase) (parts : List ℕ) (c : ℕ) → c ≡ gathered ph → (c ≡ 0 → ⊥) → step.parts (meaning ph parts) ≡ take (5 * c) parts
 parts_are Idle parts c e z = absurd (z e)

@@ -2,9 +2,9 @@
 use mathlib.Core.Path.{◌≡◌, refl, sym, ap, ◌∙◌}
 use mathlib.Core.Bool.{Bool, true, false, cond}
 use mathlib.Core.List.{List, []}
-use Prim.Native.Nat.{ℕ}
+use Prim.Native.Nat.{ℕ, ◌≤◌}
 use lib.Dec.{eqb}
-use borrow.Author.Tests.{ne_eqb}
+use borrow.Author.Tests.{eq-eqb, ne_eqb, leb-true}
 use Rattle.std.specs.Prelude.{Result, Ok, Err}
 use Rattle.std.specs.Result.{IsErr, IsErrAnd}
 use Rattle.refusal.specs.declared.Refusal.{Refusal}
@@ -25,7 +25,7 @@ use Rattle.receiver.specs.declared.Received.{Received}
 use Rattle.receiver.specs.See.{header_seen, stream_seen, counted}
 use Rattle.receiver.specs.declared.Receiver.{Receiver}
 use Rattle.receiver.specs.declared.Answer.{Answer}
-use Rattle.receiver.specs.Receiver.{meaning, padded, outcome_of, received_from, taken}
+use Rattle.receiver.specs.Receiver.{meaning, within, padded, outcome_of, received_from, taken}
 use Rattle.decode.proofs.Steps.{handed}
 
 -- r and m' are what the automaton makes of s in state st with memory m
@@ -51,6 +51,9 @@ pub opens : (h : List ℕ) (m : Mode) → mode_of (field mode_bits h) ≡ m → 
 unfolding next answer
 opens h m e = ap (λ (k : Mode). received_from (cond (streams k) idle (in_packet 0)) (header h)) (sym e)
 
+pub header_good : (f : LsfFrame) → crc f.bytes ≡ 0 → header_seen (Ok f) ≡ head f.bytes
+header_good f z = rw (eq-eqb (crc f.bytes) 0 z)
+
 pub header_bad : (f : LsfFrame) → (crc f.bytes ≡ 0 → ⊥) → unread BadHeader ≡ header_seen (Ok f)
 header_bad f z = rw (ne_eqb (crc f.bytes) 0 z)
 
@@ -72,8 +75,12 @@ module _ (st : State) (m : List ℕ) (r : Received) where
   stream_takes (Ok f) q = (q, refl)
   stream_takes (Err why) q = (q, refl)
 
--- ---- a packet slot where no packet is open
+-- ---- a packet slot
 
+pub within_packet : (ph : Phase) (n : ℕ) → ph ≡ Packet n → within ph ≡ true → n ≤ 32
+within_packet ph n e w = leb-true n 32 (sym (ap within e) ∙ w)
+
+-- where no packet is open
 pub not_open : (ph : Phase) (parts m : List ℕ) (c : PacketFrameCounter) (b : List ℕ) (r : Received) → ((x : ℕ) → ph ≡ Packet x → ⊥)
     → r ≡ received_from idle (refused OutOfTurn) → Takes (meaning ph parts) m (counted c b) r m
 unfolding next answer kept

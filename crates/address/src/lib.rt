@@ -79,7 +79,10 @@ fn digit_of(byte: u8) -> Option<u64>
     ensures { result ≡ cond (ltb (digit_of byte) 40) (Some (digit_of byte)) None }
 {
     let c = byte.to_ascii_uppercase();
-    let place = characters().iter().position(|x| *x == c)?;
+    // kept: `let .. else`, here and below: what a foreign byte comes to stands in a line of its own, which wrong programs change.
+    let Some(place) = characters().iter().position(|x| *x == c) else {
+        return None;
+    };
     Some(place as u64)
 }
 
@@ -89,14 +92,17 @@ fn encode_base_40(callsign: &[u8]) -> Option<u64>
     ensures value { result ≡ cond (writable Address.Callsign callsign.now) (Some (callsign_value callsign.now)) None }
     ensures bound { IfSome result (λ value. value < 2 ^ 48) }
 {
-    let mut value = 0;
+    let mut number = 0;
     for c in callsign.iter().rev() {
-        value = value * 40 + digit_of(*c)?;
+        let Some(digit) = digit_of(*c) else {
+            return None;
+        };
+        number = number * 40 + digit;
     }
-    if value == 0 {
+    if number == 0 {
         return None;
     }
-    Some(value)
+    Some(number)
 }
 
 fn without_callsign(address: Address) -> Reading

@@ -211,7 +211,12 @@ impl Checked {
     {
         let counter = usize::from(frame.lich_idx);
         if counter != 0 && counter != count(self.receiver.phase) {
-            return told(Answer::Stream(frame, Late::Nothing), Phase::Idle);
+            // kept: `told` says the same: the state stands here in full, where the wrong program that keeps the parts changes it.
+            let (phase, parts) = (Phase::Idle, [0u8; 30]);
+            return (
+                Answer::Stream(frame, Late::Nothing),
+                Receiver { phase, parts },
+            );
         }
         let parts = with_part(self.receiver.parts, counter, frame.lich_part);
         if counter != 5 {

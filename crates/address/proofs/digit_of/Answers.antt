@@ -16,18 +16,16 @@ found table c byte t e =
     ap₂ (λ (l : List ℕ) (x : ℕ). cond (ltb (position_or_len (λ y. eqb y x) l) (length l)) (Some (position_or_len (λ y. eqb y x) l)) None) t e
     ∙ ap (λ (n : ℕ). cond (ltb n 40) (Some n) None) (sym (place_position alphabet (upper byte)))
 
-pub returns-in_err-place : goal.returns-in_err-place
-returns-in_err-place c =
-    c.from_residual.ensures ∙ sym c.in_err-place.was
-    ∙ position_from_yields_List (λ x. eqb x c.to_ascii_uppercase-c.result) _ _ _ c.position.ensures.ran
+pub returns-in_default : goal.returns-in_default
+returns-in_default c =
+    position_from_yields_List (λ x. eqb x c.to_ascii_uppercase-c.result) _ _ _ c.in_default.ensures.ran
     (YieldsList-from_slice c.characters.result (search rules)) (λ x b q k. search (rules, tests))
     ∙ found c.characters.result c.to_ascii_uppercase-c.result c.args.byte c.characters.ensures
     (c.to_ascii_uppercase-c.ensures.value ∙ std_upper c.args.byte)
 
 pub returns : goal.returns
 returns c =
-    sym c.in_ok-place.was
-    ∙ position_from_yields_List (λ x. eqb x c.to_ascii_uppercase-c.result) _ _ _ c.position.ensures.ran
+    position_from_yields_List (λ x. eqb x c.to_ascii_uppercase-c.result) _ _ _ c.in-Some.ensures.ran
     (YieldsList-from_slice c.characters.result (search rules)) (λ x b q k. search (rules, tests))
     ∙ found c.characters.result c.to_ascii_uppercase-c.result c.args.byte c.characters.ensures
     (c.to_ascii_uppercase-c.ensures.value ∙ std_upper c.args.byte)

@@ -64,34 +64,33 @@ pub loop-c-init : goal.loop-c-init
 unfolding known callsign_value
 loop-c-init c = (refl, refl)
 
-pub overflow_mul-value : goal.overflow_mul-value
-overflow_mul-value c =
+pub overflow_mul-number : goal.overflow_mul-number
+overflow_mul-number c =
     let t = YieldsList-turn (YieldsList-from_rev_slice c.args.callsign.now (search rules)) c.loop-c.yielded _ c.loop-c.yielded_by _ _ c.in-Some.c c.in-Some.is c.next.ensures.steps in
     let long = length-reverse c.args.callsign.now in
-    omega (arith, small c.loop-c.yielded 8 c.loop-c.value (omega arith) c.loop-c.invariant.0 c.loop-c.invariant.1)
+    omega (arith, small c.loop-c.yielded 8 c.loop-c.number (omega arith) c.loop-c.invariant.0 c.loop-c.invariant.1)
 
-pub overflow_add-value : goal.overflow_add-value
-overflow_add-value c =
+pub overflow_add-number : goal.overflow_add-number
+overflow_add-number c =
     let t = YieldsList-turn (YieldsList-from_rev_slice c.args.callsign.now (search rules)) c.loop-c.yielded _ c.loop-c.yielded_by _ _ c.in-Some.c c.in-Some.is c.next.ensures.steps in
     let long = length-reverse c.args.callsign.now in
-    omega (arith, some_digit _ _ c.in_ok-value.ensures, small c.loop-c.yielded 8 c.loop-c.value (omega arith) c.loop-c.invariant.0 c.loop-c.invariant.1)
+    omega (arith, some_digit _ _ c.in-Some-digit_of.ensures, small c.loop-c.yielded 8 c.loop-c.number (omega arith) c.loop-c.invariant.0 c.loop-c.invariant.1)
 
 pub loop-c-preserved : goal.loop-c-preserved
-loop-c-preserved c = turn c.loop-c.yielded c.in-Some.c c.in_ok-value.field-0 c.loop-c.value (some_digit _ _ c.in_ok-value.ensures) c.loop-c.invariant
+loop-c-preserved c = turn c.loop-c.yielded c.in-Some.c c.in-Some-digit_of.digit c.loop-c.number (some_digit _ _ c.in-Some-digit_of.ensures) c.loop-c.invariant
 
-pub returns-in_err-value-clause-value : goal.returns-in_err-value-clause-value
-returns-in_err-value-clause-value c =
+pub returns-in_default-clause-value : goal.returns-in_default-clause-value
+returns-in_default-clause-value c =
     let t = YieldsList-turn (YieldsList-from_rev_slice c.args.callsign.now (search rules)) c.loop-c.yielded _ c.loop-c.yielded_by _ _ c.in-Some.c c.in-Some.is c.next.ensures.steps in
     let s = c.args.callsign.now in
-    c.from_residual.ensures
-    ∙ sym (ap (λ (b : Bool). cond {A = Option ℕ} b (Some (callsign_value s)) None) (callsign_foreign s (foreign s _ _ t (no_digit _ c.in_err-value.ensures))))
+    sym (ap (λ (b : Bool). cond {A = Option ℕ} b (Some (callsign_value s)) None) (callsign_foreign s (foreign s _ _ t (no_digit _ c.in_default.ensures))))
 
-pub returns-then-value-eq0-clause-value : goal.returns-then-value-eq0-clause-value
-returns-then-value-eq0-clause-value c =
+pub returns-then-number-eq0-clause-value : goal.returns-then-number-eq0-clause-value
+returns-then-number-eq0-clause-value c =
     let s = c.args.callsign.now in
     let t = YieldsList-end (YieldsList-from_rev_slice s (search rules)) c.loop-c.yielded _ c.loop-c.yielded_by _ _ c.in-None.is c.next.ensures.steps in
     let is = all s c.loop-c.yielded t.0 in
-    let n : c.loop-c.value ≡ callsign_value s = c.loop-c.invariant.1 ∙ ap callsign_value is in
+    let n : c.loop-c.number ≡ callsign_value s = c.loop-c.invariant.1 ∙ ap callsign_value is in
     let k : known s ≡ true = ap known (sym is) ∙ c.loop-c.invariant.0 in
     sym (ap (λ (b : Bool). cond {A = Option ℕ} b (Some (callsign_value s)) None) (callsign_spaces s k (omega arith)))
 
@@ -100,7 +99,7 @@ returns-clause-value c =
     let s = c.args.callsign.now in
     let t = YieldsList-end (YieldsList-from_rev_slice s (search rules)) c.loop-c.yielded _ c.loop-c.yielded_by _ _ c.in-None.is c.next.ensures.steps in
     let is = all s c.loop-c.yielded t.0 in
-    let n : c.loop-c.value ≡ callsign_value s = c.loop-c.invariant.1 ∙ ap callsign_value is in
+    let n : c.loop-c.number ≡ callsign_value s = c.loop-c.invariant.1 ∙ ap callsign_value is in
     let k : known s ≡ true = ap known (sym is) ∙ c.loop-c.invariant.0 in
     ap {B = Option ℕ} Some n ∙ sym (ap (λ (b : Bool). cond {A = Option ℕ} b (Some (callsign_value s)) None) (callsign_good s k (λ e. omega arith)))
 
@@ -109,4 +108,4 @@ returns-clause-bound c =
     let s = c.args.callsign.now in
     let t = YieldsList-end (YieldsList-from_rev_slice s (search rules)) c.loop-c.yielded _ c.loop-c.yielded_by _ _ c.in-None.is c.next.ensures.steps in
     let long = length-reverse s in
-    omega (arith, small c.loop-c.yielded 9 c.loop-c.value (omega arith) c.loop-c.invariant.0 c.loop-c.invariant.1)
+    omega (arith, small c.loop-c.yielded 9 c.loop-c.number (omega arith) c.loop-c.invariant.0 c.loop-c.invariant.1)

@@ -10,8 +10,7 @@ use Rattle.receiver.proofs.Checked.stream_step.Goals.{After-with_part-parts, els
 pub returns-then-counter-count : goal.returns-then-counter-count
 returns-then-counter-count c =
     let a = c.args in
-    told_comes _ _ _ c.told.ensures
-    ∙ part_other a.self.receiver a.frame c.from-counter.result c.from-counter.ensures c.if-counter-ne0.true (λ e. c.if-counter-count.true (e ∙ sym c.count.ensures))
+    part_other a.self.receiver a.frame c.from-counter.result c.from-counter.ensures c.if-counter-ne0.true (λ e. c.if-counter-count.true (e ∙ sym c.count.ensures))
 
 in_turn : (c : After-with_part-parts) → (c.from-counter.result ≡ 0) ⊎ (c.from-counter.result ≡ gathered c.args.self.receiver.phase)
 in_turn c =
@@ -29,7 +28,7 @@ returns-then-counter-ne5 c =
 pub returns-then-m17_crc-ne0 : goal.returns-then-m17_crc-ne0
 returns-then-m17_crc-ne0 c =
     let a = c.args in
-    told_comes _ _ _ c.told-then-m17_crc-ne0.ensures
+    told_comes _ _ _ c.told.ensures
     ∙ part_spoiled a.self.receiver a.frame c.from-counter.result c.from-counter.ensures (in_turn (goal.at.returns-then-m17_crc-ne0 c).After-with_part-parts)
     c.with_part-parts.result c.with_part-parts.ensures.0 c.if-counter-ne5.false c.with_part-parts.ensures.1 c.m17_crc.result c.m17_crc.ensures
     c.if-m17_crc-ne0.true

@@ -62,16 +62,18 @@ pub fn m17_channel_access_number(header: &[u8], out: &mut u8) -> u8
     give_number(number, out)
 }
 
-fn meta(header: &[u8]) -> Result<[u8; 14], Refusal>
-    ensures { result ≡ of_header header.now (take 14 (drop 14 header.now)) }
-{
-    Ok(LsfFrame::from_bytes(header)?.meta())
-}
-
 pub fn m17_meta(header: &[u8], out: &mut [u8]) -> u8
     ensures { (result ≡ lent_said 14 out.old (of_header header.now (take 14 (drop 14 header.now)))) × (out.new ≡ lent_bytes 14 out.old (of_header header.now (take 14 (drop 14 header.now)))) }
 {
-    give(meta(header), out)
+    // kept: no `give`: a `Result` of fourteen bytes goes over the stack, which takes twice as long.
+    if out.len() != 14 {
+        return u8::from(Refusal::WrongLength);
+    }
+    let frame = LsfFrame::from_bytes(header);
+    if let Ok(frame) = frame {
+        out.copy_from_slice(&frame.meta());
+    }
+    refusal::said(frame)
 }
 
 // kept: `with_source` and the like differ in one setter: a function over the setter would take it with its contract, and be longer than both.

@@ -26,6 +26,13 @@ two_bytes : (n : ℕ) → in_bytes 2 n ≡ two n
 unfolding in_bytes
 two_bytes n = ap (λ (x : ℕ). n / 256 ∷ x ∷ []) (div-one (n % 256))
 
+-- two bytes, each by its place
+pub both : (l : List ℕ) → length l ≡ 2 → (get_or l 0 0 ∷ get_or l 1 0 ∷ []) ≡ l
+both [] h = absurd (omega (arith, h))
+both (x ∷ []) h = absurd (omega (arith, h))
+both (x ∷ y ∷ []) h = refl
+both (x ∷ y ∷ z ∷ l) h = absurd (omega (arith, h))
+
 -- ---- from the bytes to the number
 
 module _ (s : List ℕ) (thirty : Thirty s) where

@@ -205,7 +205,8 @@ fn renew(mut bytes: [u8; 30]) -> [u8; 30]
     ensures { result ≡ renewed (fields_of bytes) }
 {
     let crc = crc::m17_crc(&bytes[..28]).to_be_bytes();
-    bytes[28..].copy_from_slice(&crc);
+    // kept: byte by byte, here and in `set_type_bits`: wrong programs change one of them.
+    bytes[28..].copy_from_slice(&[crc[0], crc[1]]);
     bytes
 }
 
@@ -275,7 +276,8 @@ impl LsfFrame {
         let above = old >> (low + width) << (low + width);
         let below = old % (1 << low);
         let new = above + (u16::from(value) << low) + below;
-        self.bytes = with_bytes(self.bytes, 12, &new.to_be_bytes());
+        let two = new.to_be_bytes();
+        self.bytes = with_bytes(self.bytes, 12, &[two[0], two[1]]);
         self
     }
 

@@ -4,12 +4,14 @@ use mathlib.Core.List.{List}
 use Prim.Native.Nat.{ℕ, ◌<◌}
 use native.Mathlib.Omega.{arith}
 use lib.ListN.{length}
+use Rattle.std.proofs.Common.{rules}
 use Rattle.laws.specs.Value.{value_of, in_bytes}
 use Rattle.laws.proofs.Number.{length_in_bytes, value_of_bytes}
 use Rattle.laws.proofs.BigEndian.{to_be_2}
 use Rattle.protocol.specs.Fields.{type_bits, type_bytes, bytes_from, set_field}
 use Rattle.protocol.specs.Header.{header}
 use Rattle.protocol.proofs.TypeBits.{type_set, shifted, shifted_lt}
+use Rattle.protocol.proofs.Whole.{both}
 use Rattle.protocol.proofs.LsfFrame.set_type_bits.Goals as goal
 
 -- the type bytes written are its value
@@ -33,7 +35,7 @@ returns c =
     let a = c.args in
     let less = shifted_lt a.low a.width c.from.result c.type_of-old.result (omega arith) (omega arith) (omega arith) in
     ap header
-    (c.with_bytes-self.ensures ∙ written a.self.bytes c.to_be_bytes.result _ less (c.to_be_bytes.ensures ∙ to_be_2 _ less)
+    (c.with_bytes-self.ensures ∙ written a.self.bytes _ _ less (both c.to_be_bytes-two.result (search rules) ∙ c.to_be_bytes-two.ensures ∙ to_be_2 _ less)
     ∙ type_set a.low a.width a.self.bytes (omega arith) c.type_of-old.result c.type_of-old.ensures c.from.result _
     (shifted a.low a.width c.from.result c.type_of-old.result (omega arith) (omega arith) (omega arith))
     ∙ ap (λ (v : ℕ). set_field (type_bits a.low a.width) v a.self.bytes) c.from.ensures)
